@@ -1,0 +1,183 @@
+-- What callers cite: a run of parts put one behind the other is their join put once; a text in form and its contents tell
+-- each other; equality of bytes is equality.
+-- Assumes nothing.
+use Prim.Native.Nat.{ℕ, zero, suc, _+_, _-_, _≤_, _<_}
+use mathlib.Core.Path.{_≡_, refl, sym, ap, _∙_}
+use mathlib.Core.Bool.{Bool, true, false, _&&_, cond, and-assoc, and-true}
+use mathlib.Core.List.{List, [], _∷_, _++_, append-assoc, append-nil}
+use native.Mathlib.Nat.{add-assoc}
+use native.Mathlib.Omega.{arith}
+use lib.Dec.{leb, eqb}
+use lib.ListN.{length, take, drop, replicate, length-append, length-take, length-drop, length-replicate, take-append-drop}
+use lib.Seq.{take-at, drop-at, drop-drop, length-take-le}
+use borrow.Author.Tests.{le-leb, leb-true, eq-eqb, eqb-true}
+use Rattle.text.specs.Bytes.{begins, same}
+use Rattle.text.specs.Classes.{inClass, allIn}
+use Rattle.text.specs.Copy.{over, fits, placed, after}
+use Rattle.text.specs.Texts.{blank, contents, textOf, inForm}
+use Rattle.text.specs.declared.Class.{Class}
+use Rattle.text.specs.declared.Class.the-variants.{C, Zero}
+use Rattle.text.specs.declared.Text.{Text}
+
+-- ---- tests that are joined
+
+pub and-left : (a b : Bool) → (a && b) ≡ true → a ≡ true
+and-left true b e = refl
+and-left false b e = e
+
+pub and-right : (a b : Bool) → (a && b) ≡ true → b ≡ true
+and-right true b e = e
+and-right false b e = let z : _≡_ {A = ℕ} 0 1 = cc in absurd (omega arith)
+
+pub and-both : {a b : Bool} → a ≡ true → b ≡ true → (a && b) ≡ true
+and-both p q = rw (p, q)
+
+-- ---- equality of bytes
+
+pub same-refl : (s : List ℕ) → same s s ≡ true
+unfolding same
+same-refl [] = refl
+same-refl (b ∷ s) = and-both (eq-eqb b b refl) (same-refl s)
+
+pub same-eq : (key part : List ℕ) → same key part ≡ true → key ≡ part
+unfolding same
+same-eq [] [] e = refl
+same-eq [] (b ∷ part) e = let z : _≡_ {A = ℕ} 0 1 = cc in absurd (omega arith)
+same-eq (k ∷ key) [] e = let z : _≡_ {A = ℕ} 0 1 = cc in absurd (omega arith)
+same-eq (k ∷ key) (b ∷ part) e =
+    let h : b ≡ k = eqb-true b k (and-left _ _ e) in
+    let t : key ≡ part = same-eq key part (and-right (eqb b k) _ e) in
+    rw (h, t)
+
+-- a part that begins with a key is the key and the rest
+pub begins-is : (key part : List ℕ) → begins key part ≡ true → part ≡ key ++ drop (length key) part
+unfolding begins
+begins-is [] part e = refl
+begins-is (k ∷ key) [] e = let z : _≡_ {A = ℕ} 0 1 = cc in absurd (omega arith)
+begins-is (k ∷ key) (b ∷ part) e =
+    let h : b ≡ k = eqb-true b k (and-left _ _ e) in
+    let t : part ≡ key ++ drop (length key) part = begins-is key part (and-right (eqb b k) _ e) in
+    rw h (ap (λ (l : List ℕ). k ∷ l) t)
+
+pub begins-append : (key rest : List ℕ) → begins key (key ++ rest) ≡ true
+unfolding begins
+begins-append [] rest = refl
+begins-append (k ∷ key) rest = and-both (eq-eqb k k refl) (begins-append key rest)
+
+-- ---- bytes of a class
+
+pub all-append : (k : Class) (s t : List ℕ) → allIn k (s ++ t) ≡ (allIn k s && allIn k t)
+unfolding allIn
+all-append k [] t = refl
+all-append k (b ∷ s) t = rw (all-append k s t) (sym (and-assoc (inClass k b) (allIn k s) (allIn k t)))
+
+-- ---- a run of parts put one behind the other
+
+module _ (buf : List ℕ) (at : ℕ) (s : List ℕ) where
+  pub length-over : at + length s ≤ length buf → length (over buf at s) ≡ length buf
+  unfolding over
+  length-over h = simp (length-append, length-take, length-drop) (omega arith)
+
+  pub over-over : (t : List ℕ) → at + length (s ++ t) ≤ length buf → over (over buf at s) (at + length s) t ≡ over buf at (s ++ t)
+  unfolding over
+  over-over t h =
+      let n : ℕ = at + length s in
+      let p : List ℕ = take at buf ++ s in
+      let q : List ℕ = drop n buf in
+      let room : at + (length s + length t) ≤ length buf = rw length-append at h in
+      let lp : length p ≡ n = simp (length-append, length-take) (omega arith) in
+      let whole : take at buf ++ (s ++ q) ≡ p ++ q = sym (append-assoc (take at buf) s q) in
+      let rest : drop (n + length t) (p ++ q) ≡ drop (n + length t) buf =
+      sym (drop-drop (length t) n (p ++ q)) ∙ ap (drop (length t)) (drop-at p q n lp) ∙ drop-drop (length t) n buf
+      in rw (whole, take-at p q n lp, rest) (simp (append-assoc, length-append, add-assoc))
+
+-- what is put in two steps is put in one, where there is room for both
+module _ (buf : List ℕ) (at : ℕ) (s t : List ℕ) (room : fits buf at (s ++ t) ≡ true) where
+  room-is : at + (length s + length t) ≤ length buf
+  unfolding fits
+  room-is = let r : at + length (s ++ t) ≤ length buf = leb-true _ _ room in rw length-append at r
+
+  first-fits : fits buf at s ≡ true
+  unfolding fits
+  first-fits = let r = room-is in le-leb (at + length s) (length buf) (omega arith)
+
+  second-fits : fits (over buf at s) (at + length s) t ≡ true
+  unfolding fits
+  second-fits = let r = room-is in rw (length-over buf at s (omega arith)) (le-leb (at + length s + length t) (length buf) (omega arith))
+
+  pub run-placed : placed (placed buf at s) (after buf at s) t ≡ placed buf at (s ++ t)
+  unfolding placed after
+  run-placed = let r = room-is in rw (first-fits, second-fits, room) (over-over buf at s t (rw length-append (omega arith)))
+
+  pub run-after : after (placed buf at s) (after buf at s) t ≡ after buf at (s ++ t)
+  unfolding placed after
+  run-after = rw (first-fits, second-fits, room, length-append) (add-assoc at (length s) (length t))
+
+pub length-placed : (buf : List ℕ) (at : ℕ) (s : List ℕ) → length (placed buf at s) ≡ length buf
+unfolding placed fits
+length-placed buf at s = go (fits buf at s) refl
+  where
+    go : (b : Bool) → fits buf at s ≡ b → length (cond b (over buf at s) buf) ≡ length buf
+    go true e = length-over buf at s (leb-true _ _ e)
+    go false e = refl
+
+-- ---- texts and their contents
+
+-- zero bytes are told by their number
+zeros : (s : List ℕ) → allIn Zero s ≡ true → s ≡ replicate {A = ℕ} (length s) 0
+unfolding allIn inClass
+zeros [] e = refl
+zeros (b ∷ s) e = rw (eqb-true b 0 (and-left _ _ e)) (ap (λ (l : List ℕ). 0 ∷ l) (zeros s (and-right (eqb b 0) _ e)))
+
+all-zeros : (n : ℕ) → allIn Zero (replicate {A = ℕ} n 0) ≡ true
+unfolding allIn inClass
+all-zeros zero = refl
+all-zeros (suc n) = all-zeros n
+
+module _ (s : List ℕ) (short : length s ≤ 20) where
+  pub text-is : textOf s ≡ record { bytes = s ++ replicate {A = ℕ} (20 - length s) 0; len = length s }
+  unfolding textOf
+  text-is = rw (le-leb (length s) 20 short)
+
+  pub contents-of : contents (textOf s) ≡ s
+  unfolding contents
+  contents-of = rw text-is (take-at s _ (length s) refl)
+
+  -- a part is a text in form exactly when it has the width and is of c
+  pub in-form-of : (least most : ℕ) → inForm least most (textOf s) ≡ (leb least (length s) && (leb (length s) most && allIn C s))
+  unfolding inForm contents
+  in-form-of least most =
+      let n : length (s ++ replicate {A = ℕ} (20 - length s) 0) ≡ 20 = simp (length-append, length-replicate) (omega arith) in
+      rw (
+        text-is,
+        eq-eqb _ _ n,
+        le-leb (length s) 20 short,
+        take-at s (replicate {A = ℕ} (20 - length s) 0) (length s) refl,
+        drop-at s (replicate {A = ℕ} (20 - length s) 0) (length s) refl,
+        all-zeros (20 - length s),
+        and-true (allIn C s),
+      )
+
+module _ (least most : ℕ) (t : Text) (good : inForm least most t ≡ true) where
+  pub in-form-facts : (length (t .bytes) ≡ 20) × (t .len ≤ 20) × (least ≤ t .len) × (t .len ≤ most) × (allIn C (contents t) ≡ true) × (allIn Zero (drop (t .len) (t .bytes)) ≡ true)
+  unfolding inForm
+  in-form-facts =
+      let r1 = and-right (eqb (length (t .bytes)) 20) _ good in
+      let r2 = and-right (leb (t .len) 20) _ r1 in
+      let r3 = and-right (leb least (t .len)) _ r2 in
+      let r4 = and-right (leb (t .len) most) _ r3 in
+      (eqb-true _ _ (and-left _ _ good), leb-true _ _ (and-left _ _ r1), leb-true _ _ (and-left _ _ r2), leb-true _ _ (and-left _ _ r3), and-left _ _ r4, and-right (allIn C (contents t)) _ r4)
+
+  pub length-contents : length (contents t) ≡ t .len
+  unfolding contents
+  length-contents = let f = in-form-facts in length-take-le _ _ (omega arith)
+
+  -- a text in form is the text of its contents
+  pub text-back : textOf (contents t) ≡ t
+  unfolding contents
+  text-back =
+      let f = in-form-facts in
+      let lc = length-contents in
+      let zs : drop (t .len) (t .bytes) ≡ replicate {A = ℕ} (20 - t .len) 0 =
+      zeros _ (f .5) ∙ ap (λ (n : ℕ). replicate {A = ℕ} n 0) (length-drop (t .len) (t .bytes) ∙ ap (λ (n : ℕ). n - t .len) (f .0))
+      in text-is (contents t) (omega arith) ∙ rw (lc, ← zs, take-append-drop (t .len) (t .bytes))

@@ -1,0 +1,119 @@
+-- The mathematics of the crate's functions, over plain lists and numbers: what each turn of a scan says of the test of the
+-- whole part, and what a run of stores leaves in a buffer.
+-- Assumes nothing.
+use Prim.Native.Nat.{ℕ, zero, suc, _+_, _-_, _≤_, _<_}
+use mathlib.Core.Path.{_≡_, refl, sym, ap, _∙_}
+use mathlib.Core.Bool.{Bool, true, false, _&&_, cond, and-false}
+use mathlib.Core.List.{List, [], _∷_, _++_, append-assoc, append-nil}
+use native.Mathlib.Numerals.{add-one}
+use native.Mathlib.Nat.{zero-add, not-suc-le-zero, le-of-suc-le-suc, sub-zero, zero-sub, suc-sub-suc}
+use native.Mathlib.Omega.{arith}
+use lib.Dec.{leb, eqb}
+use lib.ListN.{length, take, drop, getD, set, replicate, drop-of-length-le, length-drop}
+use lib.Seq.{drop-cons, paste, paste-zero, paste-suc, take-length, take-all}
+use borrow.Author.Tests.{le-leb, lt-leb, eq-eqb, ne-eqb}
+use Rattle.text.specs.Bytes.{begins, same}
+use Rattle.text.specs.Classes.{inClass, allIn}
+use Rattle.text.specs.Copy.{over, fits, placed, after}
+use Rattle.text.specs.Texts.{blank, contents, textOf}
+use Rattle.text.specs.declared.Class.{Class}
+use Rattle.text.specs.declared.Text.{Text}
+
+-- ---- every byte of a class, from a place on
+
+module _ (k : Class) (s : List ℕ) (i : ℕ) (inv : allIn k (drop i s) ≡ allIn k s) where
+  all-step : i < length s → allIn k s ≡ (inClass k (getD s i 0) && allIn k (drop (i + 1) s))
+  unfolding allIn
+  all-step h = sym inv ∙ rw (add-one, drop-cons s i 0)
+
+  pub all-stop : i < length s → inClass k (getD s i 0) ≡ false → false ≡ allIn k s
+  all-stop h e = sym (all-step h ∙ rw e)
+
+  pub all-more : i < length s → inClass k (getD s i 0) ≡ true → allIn k (drop (i + 1) s) ≡ allIn k s
+  all-more h e = sym (all-step h ∙ rw e)
+
+  pub all-done : length s ≤ i → true ≡ allIn k s
+  unfolding allIn
+  all-done h = sym (sym inv ∙ ap (allIn k) (drop-of-length-le s h))
+
+-- ---- a part against a key, from a place on
+
+pub begins-short : (key part : List ℕ) → length part < length key → false ≡ begins key part
+unfolding begins
+begins-short [] part h = absurd (not-suc-le-zero h)
+begins-short (k ∷ key) [] h = refl
+begins-short (k ∷ key) (b ∷ part) h = sym (rw (← begins-short key part (le-of-suc-le-suc h)) (and-false (eqb b k)))
+
+module _ (key part : List ℕ) (i : ℕ) (inv : begins (drop i key) (drop i part) ≡ begins key part) where
+  begins-step : i < length key → i < length part → begins key part ≡ (eqb (getD part i 0) (getD key i 0) && begins (drop (i + 1) key) (drop (i + 1) part))
+  unfolding begins
+  begins-step h g = sym inv ∙ rw (add-one, drop-cons key i 0 h, drop-cons part i 0 g)
+
+  pub begins-stop : i < length key → i < length part → (getD part i 0 ≡ getD key i 0 → ⊥) → false ≡ begins key part
+  begins-stop h g e = sym (begins-step h g ∙ rw (ne-eqb _ _ e))
+
+  pub begins-more : i < length key → i < length part → getD part i 0 ≡ getD key i 0 → begins (drop (i + 1) key) (drop (i + 1) part) ≡ begins key part
+  begins-more h g e = sym (begins-step h g ∙ rw (eq-eqb _ _ e))
+
+  pub begins-done : length key ≤ i → true ≡ begins key part
+  unfolding begins
+  begins-done h = sym (sym inv ∙ ap (λ (l : List ℕ). begins l (drop i part)) (drop-of-length-le key h))
+
+pub same-long : (key part : List ℕ) → length part ≡ length key → begins key part ≡ same key part
+unfolding begins same
+same-long [] [] e = refl
+same-long [] (b ∷ part) e = let z : ⊥ = omega arith in absurd z
+same-long (k ∷ key) [] e = refl
+same-long (k ∷ key) (b ∷ part) e = ap (λ (t : Bool). eqb b k && t) (same-long key part (omega arith))
+
+pub same-short : (key part : List ℕ) → (length part ≡ length key → ⊥) → false ≡ same key part
+unfolding same
+same-short [] [] e = absurd (e refl)
+same-short [] (b ∷ part) e = refl
+same-short (k ∷ key) [] e = refl
+same-short (k ∷ key) (b ∷ part) e = sym (rw (← same-short key part (λ h. e (ap suc h))) (and-false (eqb b k)))
+
+-- ---- what is put into a buffer
+
+module _ (buf : List ℕ) (at : ℕ) (s : List ℕ) where
+  pub put-none : length buf < at + length s → (at ≡ after buf at s) × (buf ≡ placed buf at s)
+  unfolding after placed fits
+  put-none h = (rw (lt-leb (at + length s) (length buf) h), rw (lt-leb (at + length s) (length buf) h))
+
+  pub put-more : (now : List ℕ) (i : ℕ) → now ≡ paste buf at s i → at + i < length buf → i < length s → set now (at + i) (getD s i 0) ≡ paste buf at s (i + 1)
+  put-more now i e h g = rw (e, add-one) (paste-suc buf at s i 0 h g)
+
+  pub put-done : (now : List ℕ) (i : ℕ) → now ≡ paste buf at s i → at + length s ≤ length buf → i ≡ length s → (at + i ≡ after buf at s) × (now ≡ placed buf at s)
+  unfolding after placed fits over
+  put-done now i e h g =
+      (rw (le-leb (at + length s) (length buf) h, g), rw (le-leb (at + length s) (length buf) h, e, g, take-length s, append-assoc))
+
+-- ---- texts
+
+drop-replicate : (k n : ℕ) → drop k (replicate {A = ℕ} n 0) ≡ replicate {A = ℕ} (n - k) 0
+drop-replicate zero n = rw sub-zero
+drop-replicate (suc k) zero = rw zero-sub
+drop-replicate (suc k) (suc n) = drop-replicate k n ∙ rw suc-sub-suc
+
+-- a part that is put at the start of twenty zero bytes
+pub text-of : (s bytes : List ℕ) (len : ℕ) → length s ≤ 20 → len ≡ after (replicate {A = ℕ} 20 0) 0 s → bytes ≡ placed (replicate {A = ℕ} 20 0) 0 s
+    → record { bytes = bytes; len = len } ≡ textOf s
+unfolding textOf after placed fits over
+text-of s bytes len h e f =
+    let g : 0 + length s ≤ 20 = omega arith in
+    let n : len ≡ length s = e ∙ rw (le-leb (0 + length s) 20 g, zero-add)
+    in let b : bytes ≡ s ++ replicate {A = ℕ} (20 - length s) 0 = f ∙ rw (le-leb (0 + length s) 20 g, zero-add, drop-replicate (length s) 20)
+    in rw (le-leb (length s) 20 h, n, b)
+
+pub no-text : (s : List ℕ) → 20 < length s → blank ≡ textOf s
+unfolding textOf
+no-text s h = rw (lt-leb (length s) 20 h)
+
+-- where the length is past the bytes, the contents are all of them
+pub contents-all : (t : Text) → length (t .bytes) ≤ t .len → contents t ≡ t .bytes
+unfolding contents
+contents-all t h = take-all (t .len) (t .bytes) h
+
+-- a part that runs to the end of n bytes is what is left of them
+pub rest-of : (k n : ℕ) (l : List ℕ) → length l ≡ n → take (n - k) (drop k l) ≡ drop k l
+rest-of k n l e = take-all (n - k) (drop k l) (rw (length-drop, e) (omega arith))

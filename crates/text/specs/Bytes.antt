@@ -1,0 +1,26 @@
+-- Text as document 01 prints it, as the list of its bytes, and how a part of a message is held against a key.
+use Prim.Native.Nat.{ℕ}
+use Prim.Native.Char.{code}
+use Prim.Native.String
+use Prim.Native.String.{String}
+use mathlib.Core.Bool.{Bool, true, false, _&&_}
+use mathlib.Core.List.{List, [], _∷_}
+use lib.Dec.{eqb}
+
+-- the bytes of a text that is written out, so that a key reads `bytes ":20C::SEME"`
+unfoldable pub bytes : String → List ℕ
+bytes String.[] = []
+bytes (String._∷_ c s) = code c ∷ bytes s
+
+-- a part begins with a key
+unfoldable pub begins : List ℕ → List ℕ → Bool
+begins [] part = true
+begins (k ∷ key) [] = false
+begins (k ∷ key) (b ∷ part) = eqb b k && begins key part
+
+-- a part is a key, byte for byte
+unfoldable pub same : List ℕ → List ℕ → Bool
+same [] [] = true
+same [] (b ∷ part) = false
+same (k ∷ key) [] = false
+same (k ∷ key) (b ∷ part) = eqb b k && same key part

@@ -1,0 +1,32 @@
+-- Document 01: "c" means an upper-case letter or a digit. The classes of bytes that its values are made of.
+use Prim.Native.Nat.{ℕ}
+use mathlib.Core.Bool.{Bool, true, _&&_, _||_}
+use mathlib.Core.List.{List, [], _∷_}
+use lib.Dec.{leb, eqb}
+use Rattle.text.specs.declared.Class.{Class}
+use Rattle.text.specs.declared.Class.the-variants.{C, Digit, Upper, Zero}
+
+unfoldable pub isBetween : ℕ → ℕ → ℕ → Bool
+isBetween low high b = leb low b && leb b high
+
+-- 0 to 9
+unfoldable pub isDigit : ℕ → Bool
+isDigit b = isBetween 48 57 b
+
+-- A to Z
+unfoldable pub isUpper : ℕ → Bool
+isUpper b = isBetween 65 90 b
+
+unfoldable pub isC : ℕ → Bool
+isC b = isUpper b || isDigit b
+
+-- a byte is of a class; `Zero` is the byte that stands behind the text of a record
+unfoldable pub inClass : Class → ℕ → Bool
+inClass C b = isC b
+inClass Digit b = isDigit b
+inClass Upper b = isUpper b
+inClass Zero b = eqb b 0
+
+unfoldable pub allIn : Class → List ℕ → Bool
+allIn k [] = true
+allIn k (b ∷ s) = inClass k b && allIn k s

@@ -1,0 +1,158 @@
+// The bytes that messages are made of: their classes, a part of a message held against a key, the texts of a record, and
+// putting bytes into a buffer that the caller lends.
+//
+// What is right stands in specs/: Bytes, Classes, Texts and Copy.
+ghost use mathlib.Core.Path.{_≡_};
+ghost use Rattle.text.specs.Bytes.{begins, same};
+ghost use Rattle.text.specs.Classes.{isBetween, inClass, allIn};
+ghost use Rattle.text.specs.Texts.{blank, contents, textOf, inForm};
+ghost use Rattle.text.specs.Copy.{placed, after};
+
+// The classes that document 01's values are made of, and the zero byte behind a text.
+pub enum Class {
+    C,
+    Digit,
+    Upper,
+    Zero,
+}
+
+// A text of a record: twenty bytes, of which the first `len` are the text and the others are zero.
+pub struct Text {
+    pub bytes: [u8; 20],
+    pub len: usize,
+}
+
+fn between(byte: u8, low: u8, high: u8) -> bool
+    ensures { λ r. ⌜ r ≡ isBetween low high byte ⌝ }
+{
+    low <= byte && byte <= high
+}
+
+pub fn in_class(class: Class, byte: u8) -> bool
+    ensures { λ r. ⌜ r ≡ inClass class byte ⌝ }
+{
+    match class {
+        Class::C => {
+            if between(byte, b'A', b'Z') {
+                true
+            } else {
+                between(byte, b'0', b'9')
+            }
+        }
+        Class::Digit => between(byte, b'0', b'9'),
+        Class::Upper => between(byte, b'A', b'Z'),
+        Class::Zero => byte == 0,
+    }
+}
+
+// Every byte of a part is of a class.
+pub fn all_in(class: Class, part: &[u8]) -> bool
+    ensures { λ r. ⌜ r ≡ allIn class (now (part .entry)) ⌝ }
+{
+    let mut i = 0;
+    while i < part.len() {
+        if !in_class(class, part[i]) {
+            return false;
+        }
+        i += 1;
+    }
+    true
+}
+
+// A part of a message begins with a key.
+pub fn begins_with(part: &[u8], key: &[u8]) -> bool
+    ensures { λ r. ⌜ r ≡ begins (now (key .entry)) (now (part .entry)) ⌝ }
+{
+    if part.len() < key.len() {
+        return false;
+    }
+    let mut i = 0;
+    while i < key.len() {
+        if part[i] != key[i] {
+            return false;
+        }
+        i += 1;
+    }
+    true
+}
+
+// A part of a message is a key, byte for byte.
+pub fn equals(part: &[u8], key: &[u8]) -> bool
+    ensures { λ r. ⌜ r ≡ same (now (key .entry)) (now (part .entry)) ⌝ }
+{
+    if part.len() != key.len() {
+        return false;
+    }
+    begins_with(part, key)
+}
+
+// Puts a part into a lent buffer at a place and answers the place behind it. Where the room is short nothing is put and
+// the place stays, so that a caller that measured first never sees half of it.
+pub fn put(buf: &mut [u8], at: usize, part: &[u8]) -> usize
+    ensures { λ r. ⌜ (r ≡ after (now (buf .entry)) at (now (part .entry))) × (now (buf .exit) ≡ placed (now (buf .entry)) at (now (part .entry))) ⌝ }
+{
+    if buf.len() < at {
+        return at;
+    }
+    if buf.len() - at < part.len() {
+        return at;
+    }
+    let mut i = 0;
+    while i < part.len() {
+        buf[at + i] = part[i];
+        i += 1;
+    }
+    at + i
+}
+
+// The same of a record's text: only the text is put, and not the zero bytes behind it.
+pub fn put_text(buf: &mut [u8], at: usize, text: Text) -> usize
+    ensures { λ r. ⌜ (r ≡ after (now (buf .entry)) at (contents text)) × (now (buf .exit) ≡ placed (now (buf .entry)) at (contents text)) ⌝ }
+{
+    let bytes = text.bytes;
+    let len = text.len;
+    if 20 <= len {
+        return put(buf, at, &bytes);
+    }
+    put(buf, at, &bytes[..len])
+}
+
+impl Text {
+    pub const BLANK: Text = Text {
+        bytes: [0; 20],
+        len: 0,
+    };
+
+    // A part of a message as a text; one that is longer than any text gives no text, and is never cut.
+    pub fn of(part: &[u8]) -> Text
+        ensures { λ r. ⌜ r ≡ textOf (now (part .entry)) ⌝ }
+    {
+        if 20 < part.len() {
+            return Text::BLANK;
+        }
+        let mut bytes = [0u8; 20];
+        let len = put(&mut bytes, 0, part);
+        Text { bytes, len }
+    }
+
+    // A text of a record is in form for a slot that takes from `least` to `most` c.
+    pub fn in_form(self, least: usize, most: usize) -> bool
+        ensures { λ r. ⌜ r ≡ inForm least most self ⌝ }
+    {
+        let bytes = self.bytes;
+        let len = self.len;
+        if 20 < len {
+            return false;
+        }
+        if len < least {
+            return false;
+        }
+        if most < len {
+            return false;
+        }
+        if !all_in(Class::C, &bytes[..len]) {
+            return false;
+        }
+        all_in(Class::Zero, &bytes[len..])
+    }
+}
