@@ -5,11 +5,12 @@ use Prim.Native.Nat.{ℕ, zero, suc, _+_, _-_, _≤_, _<_}
 use mathlib.Core.Path.{_≡_, refl, sym, ap, _∙_}
 use mathlib.Core.Bool.{Bool, true, false, _&&_, cond, and-assoc, and-true}
 use mathlib.Core.List.{List, [], _∷_, _++_, append-assoc, append-nil}
-use native.Mathlib.Nat.{add-assoc}
+use native.Mathlib.Nat.{add-zero, add-assoc, add-suc}
+use native.Mathlib.Numerals.{add-one}
 use native.Mathlib.Omega.{arith}
 use lib.Dec.{leb, eqb}
-use lib.ListN.{length, take, drop, replicate, length-append, length-take, length-drop, length-replicate, take-append-drop}
-use lib.Seq.{take-at, drop-at, drop-drop, length-take-le}
+use lib.ListN.{length, take, drop, set, replicate, length-append, length-take, length-drop, length-replicate, take-append-drop}
+use lib.Seq.{take-at, drop-at, drop-drop, length-take-le, take-set-le, set-split}
 use borrow.Author.Tests.{le-leb, leb-true, eq-eqb, eqb-true}
 use Rattle.text.specs.Bytes.{begins, same}
 use Rattle.text.specs.Classes.{inClass, allIn}
@@ -90,6 +91,19 @@ module _ (buf : List ℕ) (at : ℕ) (s : List ℕ) where
       let rest : drop (n + length t) (p ++ q) ≡ drop (n + length t) buf =
       sym (drop-drop (length t) n (p ++ q)) ∙ ap (drop (length t)) (drop-at p q n lp) ∙ drop-drop (length t) n buf
       in rw (whole, take-at p q n lp, rest) (simp (append-assoc, length-append, add-assoc))
+
+pub over-nil : (buf : List ℕ) (at : ℕ) → over buf at [] ≡ buf
+unfolding over
+over-nil buf at = rw (add-zero, take-append-drop)
+
+-- one byte more behind what is put
+pub over-set : (buf : List ℕ) (at : ℕ) (s : List ℕ) (x : ℕ) → at + length s < length buf → over (set buf (at + length s) x) at s ≡ over buf at (s ++ (x ∷ []))
+unfolding over
+over-set buf at s x h =
+    let i : ℕ = at + length s in
+    let e : take at (set buf i x) ≡ take at buf = take-set-le at buf i x (omega arith) in
+    let f : drop i (set buf i x) ≡ x ∷ drop (suc i) buf = rw (set-split buf i x h) (drop-at (take i buf) (x ∷ drop (suc i) buf) i (length-take-le i buf (omega arith))) in
+    rw (e, f) (simp (append-assoc, length-append, add-one, add-suc))
 
 -- what is put in two steps is put in one, where there is room for both
 module _ (buf : List ℕ) (at : ℕ) (s t : List ℕ) (room : fits buf at (s ++ t) ≡ true) where

@@ -1,0 +1,36 @@
+-- Digits and the whole number that they spell, both ways; dates, times and amounts are made of them.
+use Prim.Native.Nat.{ℕ, zero, suc, _+_, _-_, _*_, _/_, _%_, _^_}
+use mathlib.Core.Bool.{Bool, _&&_, cond}
+use mathlib.Core.List.{List, [], _∷_, _++_}
+use lib.Dec.{leb, ltb, eqb}
+use lib.ListN.{length}
+use Rattle.text.specs.Classes.{allIn}
+use Rattle.text.specs.declared.Class.the-variants.{Digit}
+use Rattle.digits.specs.declared.Number.{Number}
+use Rattle.digits.specs.declared.Number.the-variants.{Is, Not}
+
+-- digits read on behind a number that was read already
+unfoldable pub numeralFrom : ℕ → List ℕ → ℕ
+numeralFrom n [] = n
+numeralFrom n (b ∷ s) = numeralFrom (n * 10 + (b - 48)) s
+
+-- the whole number that digits spell; noughts in front do not count
+unfoldable pub numeral : List ℕ → ℕ
+numeral s = numeralFrom 0 s
+
+-- the last `width` digits of a number, with noughts in front where it has fewer
+unfoldable pub digits : ℕ → ℕ → List ℕ
+digits zero n = []
+digits (suc width) n = digits width (n / 10) ++ ((48 + n % 10) ∷ [])
+
+-- a part as a number: digits alone, at most eighteen of them, so that every number fits its place
+unfoldable pub numberOf : List ℕ → Number
+numberOf s = cond (leb (length s) 18 && allIn Digit s) (Is (numeral s)) Not
+
+-- the same of a part that has exactly `width` digits
+unfoldable pub fixedOf : ℕ → List ℕ → Number
+fixedOf width s = cond (eqb (length s) width) (numberOf s) Not
+
+-- the power of ten that moves a comma by a number of places, up to fourteen
+unfoldable pub tenTo : ℕ → ℕ
+tenTo d = cond (ltb d 15) (10 ^ d) 0
