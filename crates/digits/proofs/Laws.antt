@@ -158,3 +158,21 @@ fixed-back width s n w e = go (eqb (length s) width && allIn Digit s) refl (sym 
         let l : length s ≡ width = eqb-true _ _ (and-left _ _ t) in
         rw (← m, ← l) (digits-numeral s (and-right (eqb (length s) width) _ t))
     go false t h = let z : _≡_ {A = ℕ} 0 1 = cc in absurd (omega arith)
+
+-- ---- what a number that was read, or was not, tells of the part
+
+pub number-is : (s : List ℕ) (n : ℕ) → numberOf s ≡ Is n → (allIn Digit s ≡ true) × (numeral s ≡ n)
+unfolding numberOf
+number-is s n e = go (leb (length s) 18 && allIn Digit s) refl e
+  where
+    go : (b : Bool) → (leb (length s) 18 && allIn Digit s) ≡ b → cond b (Is (numeral s)) Not ≡ Is n → (allIn Digit s ≡ true) × (numeral s ≡ n)
+    go true t h = (and-right (leb (length s) 18) _ t, cc)
+    go false t h = let z : _≡_ {A = ℕ} 0 1 = cc in absurd (omega arith)
+
+pub number-not : (s : List ℕ) → length s ≤ 18 → numberOf s ≡ Not → allIn Digit s ≡ false
+unfolding numberOf
+number-not s short e = go (allIn Digit s) (rw (le-leb (length s) 18 short) at e)
+  where
+    go : (b : Bool) → cond b (Is (numeral s)) Not ≡ Not → b ≡ false
+    go true h = let z : _≡_ {A = ℕ} 0 1 = cc in absurd (omega arith)
+    go false h = refl

@@ -3,16 +3,16 @@
 -- Assumes nothing.
 use Prim.Native.Nat.{ℕ, zero, suc, _+_, _-_, _≤_, _<_}
 use mathlib.Core.Path.{_≡_, refl, sym, ap, _∙_}
-use mathlib.Core.Bool.{Bool, true, false, _&&_, cond, and-assoc, and-true}
+use mathlib.Core.Bool.{Bool, true, false, _&&_, cond, and-assoc, and-true, true≢false}
 use mathlib.Core.List.{List, [], _∷_, _++_, append-assoc, append-nil}
-use native.Mathlib.Nat.{add-zero, add-assoc, add-suc}
+use native.Mathlib.Nat.{add-zero, add-assoc, add-suc, zero-add, sub-zero, zero-sub, suc-sub-suc, not-suc-le-zero, le-of-suc-le-suc}
 use native.Mathlib.Numerals.{add-one}
 use native.Mathlib.Omega.{arith}
 use lib.Dec.{leb, eqb}
 use lib.ListN.{length, take, drop, set, replicate, length-append, length-take, length-drop, length-replicate, take-append-drop}
-use lib.Seq.{take-at, drop-at, drop-drop, length-take-le, take-set-le, set-split}
-use borrow.Author.Tests.{le-leb, leb-true, eq-eqb, eqb-true}
-use Rattle.text.specs.Bytes.{begins, same}
+use lib.Seq.{take-at, drop-at, drop-drop, length-take-le, take-all, drop-length, take-set-le, set-split}
+use borrow.Author.Tests.{le-leb, leb-true, eq-eqb, ne-eqb, eqb-true}
+use Rattle.text.specs.Bytes.{begins, same, before}
 use Rattle.text.specs.Classes.{inClass, allIn}
 use Rattle.text.specs.Copy.{over, fits, placed, after}
 use Rattle.text.specs.Texts.{blank, contents, textOf, inForm}
@@ -32,6 +32,17 @@ and-right false b e = let z : _≡_ {A = ℕ} 0 1 = cc in absurd (omega arith)
 
 pub and-both : {a b : Bool} → a ≡ true → b ≡ true → (a && b) ≡ true
 and-both p q = rw (p, q)
+
+-- ---- parts
+
+-- a part that runs to the end of n bytes is what is left of them
+pub rest-of : (k n : ℕ) (l : List ℕ) → length l ≡ n → take (n - k) (drop k l) ≡ drop k l
+rest-of k n l e = take-all (n - k) (drop k l) (rw (length-drop, e) (omega arith))
+
+pub drop-replicate : (k n a : ℕ) → drop k (replicate {A = ℕ} n a) ≡ replicate {A = ℕ} (n - k) a
+drop-replicate zero n a = rw sub-zero
+drop-replicate (suc k) zero a = rw zero-sub
+drop-replicate (suc k) (suc n) a = drop-replicate k n a ∙ rw suc-sub-suc
 
 -- ---- equality of bytes
 
@@ -64,6 +75,41 @@ pub begins-append : (key rest : List ℕ) → begins key (key ++ rest) ≡ true
 unfolding begins
 begins-append [] rest = refl
 begins-append (k ∷ key) rest = and-both (eq-eqb k k refl) (begins-append key rest)
+
+-- ---- what stands before the first byte of a kind
+
+-- it is what the part begins with
+pub before-front : (b : ℕ) (s : List ℕ) → take (length (before b s)) s ≡ before b s
+unfolding before
+before-front b [] = refl
+before-front b (x ∷ s) = go (before-front b s) (eqb x b)
+  where
+    go : take (length (before b s)) s ≡ before b s → (t : Bool) → take (length (cond t [] (x ∷ before b s))) (x ∷ s) ≡ cond t [] (x ∷ before b s)
+    go ih true = refl
+    go ih false = ap (λ (l : List ℕ). x ∷ l) ih
+
+-- where it is not all of the part, that byte and the rest stand behind it
+pub before-split : (b : ℕ) (s : List ℕ) → length (before b s) < length s → s ≡ before b s ++ b ∷ drop (suc (length (before b s))) s
+unfolding before
+before-split b [] h = absurd (not-suc-le-zero h)
+before-split b (x ∷ s) h = go (before-split b s) (eqb x b) refl h
+  where
+    go : (length (before b s) < length s → s ≡ before b s ++ b ∷ drop (suc (length (before b s))) s) → (t : Bool) → eqb x b ≡ t
+        → length (cond t [] (x ∷ before b s)) < suc (length s)
+        → x ∷ s ≡ cond t [] (x ∷ before b s) ++ b ∷ drop (length (cond t [] (x ∷ before b s))) s
+    go ih true e h = rw (eqb-true x b e)
+    go ih false e h = ap (λ (l : List ℕ). x ∷ l) (ih (le-of-suc-le-suc h))
+
+-- a part that does not hold the byte stands whole before it
+pub before-of : (k : Class) (b : ℕ) → (inClass k b ≡ false) → (s t : List ℕ) → allIn k s ≡ true → before b (s ++ b ∷ t) ≡ s
+unfolding before allIn
+before-of k b n [] t e = rw (eq-eqb b b refl)
+before-of k b n (x ∷ s) t e =
+    let other : x ≡ b → ⊥ = λ h. true≢false (sym (and-left _ _ e) ∙ ap (inClass k) h ∙ n) in
+    rw (ne-eqb x b other, before-of k b n s t (and-right (inClass k x) _ e))
+
+pub before-length : (b : ℕ) (s : List ℕ) → length (before b s) ≤ length s
+before-length b s = let e = ap length (before-front b s) in let l = length-take (length (before b s)) s in omega arith
 
 -- ---- bytes of a class
 
@@ -134,6 +180,11 @@ length-placed buf at s = go (fits buf at s) refl
     go : (b : Bool) → fits buf at s ≡ b → length (cond b (over buf at s) buf) ≡ length buf
     go true e = length-over buf at s (leb-true _ _ e)
     go false e = refl
+
+-- a part as long as the buffer takes its place
+pub placed-all : (buf s : List ℕ) → length s ≡ length buf → placed buf 0 s ≡ s
+unfolding placed fits over
+placed-all buf s e = rw (zero-add, le-leb (length s) (length buf) (omega arith), e, drop-length buf) (append-nil s)
 
 -- ---- texts and their contents
 

@@ -6,13 +6,14 @@ use mathlib.Core.Path.{_≡_, refl, sym, ap, _∙_}
 use mathlib.Core.Bool.{Bool, true, false, _&&_, cond, and-false}
 use mathlib.Core.List.{List, [], _∷_, _++_, append-assoc, append-nil}
 use native.Mathlib.Numerals.{add-one}
-use native.Mathlib.Nat.{zero-add, not-suc-le-zero, le-of-suc-le-suc, sub-zero, zero-sub, suc-sub-suc}
+use native.Mathlib.Nat.{add-zero, zero-add, not-suc-le-zero, le-of-suc-le-suc}
 use native.Mathlib.Omega.{arith}
 use lib.Dec.{leb, eqb}
-use lib.ListN.{length, take, drop, getD, set, replicate, drop-of-length-le, length-drop}
+use lib.ListN.{length, take, drop, getD, set, replicate, drop-of-length-le}
 use lib.Seq.{drop-cons, paste, paste-zero, paste-suc, take-length, take-all}
 use borrow.Author.Tests.{le-leb, lt-leb, eq-eqb, ne-eqb}
-use Rattle.text.specs.Bytes.{begins, same}
+use Rattle.text.proofs.Laws.{drop-replicate}
+use Rattle.text.specs.Bytes.{begins, same, before}
 use Rattle.text.specs.Classes.{inClass, allIn}
 use Rattle.text.specs.Copy.{over, fits, placed, after}
 use Rattle.text.specs.Texts.{blank, contents, textOf}
@@ -73,6 +74,21 @@ same-short [] (b ∷ part) e = refl
 same-short (k ∷ key) [] e = refl
 same-short (k ∷ key) (b ∷ part) e = sym (rw (← same-short key part (λ h. e (ap suc h))) (and-false (eqb b k)))
 
+-- ---- the first byte of a kind, from a place on
+
+module _ (byte : ℕ) (s : List ℕ) (i : ℕ) (inv : length (before byte s) ≡ i + length (before byte (drop i s))) where
+  pub find-here : i < length s → getD s i 0 ≡ byte → i ≡ length (before byte s)
+  unfolding before
+  find-here h e = sym (inv ∙ rw (drop-cons s i 0 h, eq-eqb _ _ e) (add-zero i))
+
+  pub find-more : i < length s → (getD s i 0 ≡ byte → ⊥) → length (before byte s) ≡ i + 1 + length (before byte (drop (i + 1) s))
+  unfolding before
+  find-more h e = inv ∙ rw (drop-cons s i 0 h, ne-eqb _ _ e, add-one) (omega arith)
+
+  pub find-none : length s ≤ i → i ≡ length (before byte s)
+  unfolding before
+  find-none h = sym (inv ∙ rw (drop-of-length-le s h) (add-zero i))
+
 -- ---- what is put into a buffer
 
 module _ (buf : List ℕ) (at : ℕ) (s : List ℕ) where
@@ -90,11 +106,6 @@ module _ (buf : List ℕ) (at : ℕ) (s : List ℕ) where
 
 -- ---- texts
 
-drop-replicate : (k n : ℕ) → drop k (replicate {A = ℕ} n 0) ≡ replicate {A = ℕ} (n - k) 0
-drop-replicate zero n = rw sub-zero
-drop-replicate (suc k) zero = rw zero-sub
-drop-replicate (suc k) (suc n) = drop-replicate k n ∙ rw suc-sub-suc
-
 -- a part that is put at the start of twenty zero bytes
 pub text-of : (s bytes : List ℕ) (len : ℕ) → length s ≤ 20 → len ≡ after (replicate {A = ℕ} 20 0) 0 s → bytes ≡ placed (replicate {A = ℕ} 20 0) 0 s
     → record { bytes = bytes; len = len } ≡ textOf s
@@ -102,7 +113,7 @@ unfolding textOf after placed fits over
 text-of s bytes len h e f =
     let g : 0 + length s ≤ 20 = omega arith in
     let n : len ≡ length s = e ∙ rw (le-leb (0 + length s) 20 g, zero-add)
-    in let b : bytes ≡ s ++ replicate {A = ℕ} (20 - length s) 0 = f ∙ rw (le-leb (0 + length s) 20 g, zero-add, drop-replicate (length s) 20)
+    in let b : bytes ≡ s ++ replicate {A = ℕ} (20 - length s) 0 = f ∙ rw (le-leb (0 + length s) 20 g, zero-add, drop-replicate (length s) 20 0)
     in rw (le-leb (length s) 20 h, n, b)
 
 pub no-text : (s : List ℕ) → 20 < length s → blank ≡ textOf s
@@ -113,7 +124,3 @@ no-text s h = rw (lt-leb (length s) 20 h)
 pub contents-all : (t : Text) → length (t .bytes) ≤ t .len → contents t ≡ t .bytes
 unfolding contents
 contents-all t h = take-all (t .len) (t .bytes) h
-
--- a part that runs to the end of n bytes is what is left of them
-pub rest-of : (k n : ℕ) (l : List ℕ) → length l ≡ n → take (n - k) (drop k l) ≡ drop k l
-rest-of k n l e = take-all (n - k) (drop k l) (rw (length-drop, e) (omega arith))

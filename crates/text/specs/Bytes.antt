@@ -3,7 +3,7 @@ use Prim.Native.Nat.{ℕ}
 use Prim.Native.Char.{code}
 use Prim.Native.String
 use Prim.Native.String.{String}
-use mathlib.Core.Bool.{Bool, true, false, _&&_}
+use mathlib.Core.Bool.{Bool, true, false, _&&_, cond}
 use mathlib.Core.List.{List, [], _∷_}
 use lib.Dec.{eqb}
 
@@ -24,3 +24,8 @@ same [] [] = true
 same [] (b ∷ part) = false
 same (k ∷ key) [] = false
 same (k ∷ key) (b ∷ part) = eqb b k && same key part
+
+-- what stands before the first byte b of a part; all of it where there is none
+unfoldable pub before : ℕ → List ℕ → List ℕ
+before b [] = []
+before b (x ∷ s) = cond (eqb x b) [] (x ∷ before b s)

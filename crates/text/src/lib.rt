@@ -3,7 +3,8 @@
 //
 // What is right stands in specs/: Bytes, Classes, Texts and Copy.
 ghost use mathlib.Core.Path.{_≡_};
-ghost use Rattle.text.specs.Bytes.{begins, same};
+ghost use lib.ListN.{length};
+ghost use Rattle.text.specs.Bytes.{begins, same, before};
 ghost use Rattle.text.specs.Classes.{isBetween, inClass, allIn};
 ghost use Rattle.text.specs.Texts.{blank, contents, textOf, inForm};
 ghost use Rattle.text.specs.Copy.{placed, after};
@@ -84,6 +85,20 @@ pub fn equals(part: &[u8], key: &[u8]) -> bool
         return false;
     }
     begins_with(part, key)
+}
+
+// How many bytes of a part stand before the first one that is `byte`; all of them where there is none.
+pub fn find(part: &[u8], byte: u8) -> usize
+    ensures { λ r. ⌜ r ≡ length (before byte (now (part .entry))) ⌝ }
+{
+    let mut i = 0;
+    while i < part.len() {
+        if part[i] == byte {
+            return i;
+        }
+        i += 1;
+    }
+    i
 }
 
 // Puts a part into a lent buffer at a place and answers the place behind it. Where the room is short nothing is put and

@@ -8,7 +8,7 @@ use Rattle.text.specs.Classes.{allIn}
 use Rattle.text.specs.Texts.{inForm, contents}
 use Rattle.text.specs.declared.Class.the-variants.{Zero}
 use borrow.Author.Needs.{needs}
-use Rattle.text.proofs.Turns.{rest-of}
+use Rattle.text.proofs.Laws.{rest-of}
 use Rattle.text.proofs.Text.in_form.Statement.{statement}
 use Rattle.text.proofs.Text.in_form.Tie as tie
 

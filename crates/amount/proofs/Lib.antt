@@ -1,0 +1,4 @@
+pub mod Trims
+pub mod Laws
+pub mod Turns
+pub mod Cases

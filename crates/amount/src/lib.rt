@@ -1,0 +1,189 @@
+// Exact amounts: reading, judging and putting them. Par, price and money are three types around one amount, so that none is
+// ever taken for another.
+//
+// What is right stands in specs/Amounts.
+use digits::Number;
+use text::Class;
+ghost use mathlib.Core.Path.{_≡_};
+ghost use Prim.Native.Nat.{_+_, _≤_};
+ghost use lib.ListN.{length};
+ghost use Rattle.text.specs.Copy.{placed, after};
+ghost use Rattle.amount.specs.Amounts.{shortened, noughts, partsRead, amountRead, inForm, spread, amountText};
+
+// The digits of an amount as one whole number, and how many of them are decimals.
+pub struct Amount {
+    pub number: u64,
+    pub decimals: usize,
+}
+
+pub enum AmountRead {
+    Good(Amount),
+    Wrong,
+}
+
+// How many bytes are left of decimals without the noughts at their end.
+fn lasting(part: &[u8]) -> usize
+    ensures { λ r. ⌜ r ≡ length (shortened (now (part .entry))) ⌝ }
+{
+    let mut n = part.len();
+    while 0 < n {
+        if part[n - 1] != b'0' {
+            return n;
+        }
+        n -= 1;
+    }
+    0
+}
+
+// How many noughts stand in front.
+fn leading(part: &[u8]) -> usize
+    ensures { λ r. ⌜ r ≡ noughts (now (part .entry)) ⌝ }
+{
+    let mut i = 0;
+    while i < part.len() {
+        if part[i] != b'0' {
+            return i;
+        }
+        i += 1;
+    }
+    i
+}
+
+// The amount that a whole part and decimals mean, where they are digits.
+fn from_parts(whole: &[u8], rest: &[u8]) -> AmountRead
+    requires { ⌜ length (now whole) + length (now rest) ≤ 14 ⌝ }
+    ensures { λ r. ⌜ r ≡ partsRead (now (whole .entry)) (now (rest .entry)) ⌝ }
+{
+    if !text::all_in(Class::Digit, rest) {
+        return AmountRead::Wrong;
+    }
+    let Number::Is(number) = digits::read_digits(whole) else {
+        return AmountRead::Wrong;
+    };
+    let decimals = lasting(rest);
+    let Number::Is(tail) = digits::read_digits(&rest[..decimals]) else {
+        return AmountRead::Wrong;
+    };
+    AmountRead::Good(Amount {
+        number: number * digits::ten_to(decimals) + tail,
+        decimals,
+    })
+}
+
+impl Amount {
+    pub const ZERO: Amount = Amount {
+        number: 0,
+        decimals: 0,
+    };
+
+    // Fourteen nines: the most that fifteen characters with a comma can say.
+    pub const MAX: Amount = Amount {
+        number: 99_999_999_999_999,
+        decimals: 0,
+    };
+
+    // A part of a message as an amount.
+    pub fn read(part: &[u8]) -> AmountRead
+        ensures { λ r. ⌜ r ≡ amountRead (now (part .entry)) ⌝ }
+    {
+        if 15 < part.len() {
+            return AmountRead::Wrong;
+        }
+        let cut = text::find(part, b',');
+        if cut == part.len() {
+            return AmountRead::Wrong;
+        }
+        if cut == 0 {
+            return AmountRead::Wrong;
+        }
+        from_parts(&part[..cut], &part[cut + 1..])
+    }
+
+    // An amount of a record is in its shortest form, and has a text.
+    pub fn in_form(self) -> bool
+        ensures { λ r. ⌜ r ≡ inForm self ⌝ }
+    {
+        if Amount::MAX.number < self.number {
+            return false;
+        }
+        if 13 < self.decimals {
+            return false;
+        }
+        if self.decimals == 0 {
+            return true;
+        }
+        self.number % 10 != 0
+    }
+
+    // Puts the shortest text of an amount, as `text::put` puts a part; what is not in form has no text.
+    pub fn put(self, buf: &mut [u8], at: usize) -> usize
+        ensures { λ r. ⌜ (r ≡ after (now (buf .entry)) at (amountText self)) × (now (buf .exit) ≡ placed (now (buf .entry)) at (amountText self)) ⌝ }
+    {
+        if !self.in_form() {
+            return text::put(buf, at, b"");
+        }
+        let decimals = self.decimals;
+        let line = spread_out(self.number, decimals);
+        let from = leading(&line[..13 - decimals]);
+        text::put(buf, at, &line[from..])
+    }
+}
+
+// Fourteen digits, with the comma before the last `decimals` of them.
+fn spread_out(number: u64, decimals: usize) -> [u8; 15]
+    requires { ⌜ decimals ≤ 13 ⌝ }
+    ensures { λ r. ⌜ r ≡ spread (record { number = number; decimals = decimals }) ⌝ }
+{
+    let mut all = [b'0'; 14];
+    digits::put_digits(&mut all, 0, 14, number);
+    let cut = 14 - decimals;
+    let mut line = [b','; 15];
+    text::put(&mut line, 0, &all[..cut]);
+    text::put(&mut line, cut + 1, &all[cut..]);
+    line
+}
+
+// The face value of a trade.
+pub struct Par(pub Amount);
+
+impl Par {
+    pub const ZERO: Par = Par(Amount::ZERO);
+
+    pub const MAX: Par = Par(Amount::MAX);
+
+    pub fn of(amount: Amount) -> Par
+        ensures { λ r. ⌜ r .0 ≡ amount ⌝ }
+    {
+        Par(amount)
+    }
+}
+
+// The price of a trade.
+pub struct Price(pub Amount);
+
+impl Price {
+    pub const ZERO: Price = Price(Amount::ZERO);
+
+    pub const MAX: Price = Price(Amount::MAX);
+
+    pub fn of(amount: Amount) -> Price
+        ensures { λ r. ⌜ r .0 ≡ amount ⌝ }
+    {
+        Price(amount)
+    }
+}
+
+// A sum of money.
+pub struct Money(pub Amount);
+
+impl Money {
+    pub const ZERO: Money = Money(Amount::ZERO);
+
+    pub const MAX: Money = Money(Amount::MAX);
+
+    pub fn of(amount: Amount) -> Money
+        ensures { λ r. ⌜ r .0 ≡ amount ⌝ }
+    {
+        Money(amount)
+    }
+}

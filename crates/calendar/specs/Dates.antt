@@ -1,0 +1,93 @@
+-- Document 01, "Dates": YYYYMMDD, year 0001 to 9999, Gregorian leap years; times 000000 to 235959 with minutes and seconds
+-- to 59; a date and time is 14 digits.
+use Prim.Native.Nat.{ℕ, _+_, _*_, _/_, _%_}
+use mathlib.Core.Bool.{Bool, _&&_, _||_, not, cond}
+use mathlib.Core.List.{List, [], _∷_}
+use lib.Dec.{leb, ltb, eqb}
+use lib.ListN.{getD}
+use Rattle.digits.specs.Numerals.{digits, fixedOf}
+use Rattle.digits.specs.declared.Number.{Number}
+use Rattle.digits.specs.declared.Number.the-variants.{Is, Not}
+use Rattle.calendar.specs.declared.Date.{Date}
+use Rattle.calendar.specs.declared.Moment.{Moment}
+use Rattle.calendar.specs.declared.DateRead.{DateRead}
+use Rattle.calendar.specs.declared.MomentRead.{MomentRead}
+
+-- ---- the calendar
+
+-- a date is the number that its eight digits spell, YYYYMMDD
+unfoldable pub year : ℕ → ℕ
+year n = n / 10000
+
+unfoldable pub month : ℕ → ℕ
+month n = n / 100 % 100
+
+unfoldable pub day : ℕ → ℕ
+day n = n % 100
+
+unfoldable pub leap : ℕ → Bool
+leap y = eqb (y % 4) 0 && (not (eqb (y % 100) 0) || eqb (y % 400) 0)
+
+-- the days of each month of a common year, January at 1
+unfoldable pub lengths : List ℕ
+lengths = 0 ∷ 31 ∷ 28 ∷ 31 ∷ 30 ∷ 31 ∷ 30 ∷ 31 ∷ 31 ∷ 30 ∷ 31 ∷ 30 ∷ 31 ∷ []
+
+unfoldable pub monthLength : ℕ → ℕ → ℕ
+monthLength y m = cond (eqb m 2 && leap y) 29 (getD lengths m 0)
+
+unfoldable pub isDate : ℕ → Bool
+isDate n =
+    leb 1 (year n) && (leb (year n) 9999
+    && (leb 1 (month n) && (leb (month n) 12 && (leb 1 (day n) && leb (day n) (monthLength (year n) (month n))))))
+
+-- a time of day is the number that its six digits spell, HHMMSS
+unfoldable pub isTime : ℕ → Bool
+isTime n = leb (n / 10000) 23 && (leb (n / 100 % 100) 59 && leb (n % 100) 59)
+
+-- one date is earlier than another: by year, then by month, then by day
+unfoldable pub earlier : Date → Date → Bool
+earlier a b =
+    ltb (year (a .0)) (year (b .0))
+    || (eqb (year (a .0)) (year (b .0))
+    && (ltb (month (a .0)) (month (b .0)) || (eqb (month (a .0)) (month (b .0)) && ltb (day (a .0)) (day (b .0)))))
+
+-- a date and time are both
+unfoldable pub isMoment : Moment → Bool
+isMoment m = isDate (m .date .0) && isTime (m .time .0)
+
+-- ---- reading: digits alone, as many as the form has, that name a day or a moment; anything else is wrong
+
+unfoldable pub dateFrom : Number → DateRead
+dateFrom (Is n) = cond (isDate n) (DateRead.Good (record { 0 = n })) DateRead.Wrong
+dateFrom Not = DateRead.Wrong
+
+unfoldable pub dateRead : List ℕ → DateRead
+dateRead s = dateFrom (fixedOf 8 s)
+
+-- fourteen digits are the eight of the date and the six of the time
+unfoldable pub momentOf : ℕ → Moment
+momentOf n = record { date = record { 0 = n / 1000000 }; time = record { 0 = n % 1000000 } }
+
+unfoldable pub momentFrom : Number → MomentRead
+momentFrom (Is n) = cond (isMoment (momentOf n)) (MomentRead.Good (momentOf n)) MomentRead.Wrong
+momentFrom Not = MomentRead.Wrong
+
+unfoldable pub momentRead : List ℕ → MomentRead
+momentRead s = momentFrom (fixedOf 14 s)
+
+-- the number that the desk gets: 12 for whatever is wrong
+unfoldable pub dateNumber : DateRead → ℕ
+dateNumber (DateRead.Good d) = 0
+dateNumber DateRead.Wrong = 12
+
+unfoldable pub momentNumber : MomentRead → ℕ
+momentNumber (MomentRead.Good m) = 0
+momentNumber MomentRead.Wrong = 12
+
+-- ---- writing: what is in form is written as its digits, and anything else as nothing
+
+unfoldable pub dateText : Date → List ℕ
+dateText d = cond (isDate (d .0)) (digits 8 (d .0)) []
+
+unfoldable pub momentText : Moment → List ℕ
+momentText m = cond (isMoment m) (digits 14 (m .date .0 * 1000000 + m .time .0)) []
