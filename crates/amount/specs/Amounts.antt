@@ -62,7 +62,7 @@ unfoldable pub amountRead : List ℕ → AmountRead
 amountRead s = cond (isAmount s) (Good (valueOf s)) Wrong
 
 -- the number that the desk gets: 11 for whatever is wrong
-unfoldable pub amountNumber : AmountRead → ℕ
+abbrev pub amountNumber : AmountRead → ℕ
 amountNumber (Good a) = 0
 amountNumber Wrong = 11
 

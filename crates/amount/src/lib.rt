@@ -8,7 +8,7 @@ ghost use mathlib.Core.Path.{_≡_};
 ghost use Prim.Native.Nat.{_+_, _≤_};
 ghost use lib.ListN.{length};
 ghost use Rattle.text.specs.Copy.{placed, after};
-ghost use Rattle.amount.specs.Amounts.{shortened, noughts, partsRead, amountRead, inForm, spread, amountText};
+ghost use Rattle.amount.specs.Amounts.{shortened, noughts, partsRead, amountRead, amountNumber, inForm, spread, amountText};
 
 // The digits of an amount as one whole number, and how many of them are decimals.
 pub struct Amount {
@@ -19,6 +19,18 @@ pub struct Amount {
 pub enum AmountRead {
     Good(Amount),
     Wrong,
+}
+
+impl AmountRead {
+    // The number that the desk gets.
+    pub fn number(self) -> u64
+        ensures { λ r. ⌜ r ≡ amountNumber self ⌝ }
+    {
+        match self {
+            AmountRead::Good(_) => 0,
+            AmountRead::Wrong => 11,
+        }
+    }
 }
 
 // How many bytes are left of decimals without the noughts at their end.

@@ -76,11 +76,11 @@ unfoldable pub momentRead : List ℕ → MomentRead
 momentRead s = momentFrom (fixedOf 14 s)
 
 -- the number that the desk gets: 12 for whatever is wrong
-unfoldable pub dateNumber : DateRead → ℕ
+abbrev pub dateNumber : DateRead → ℕ
 dateNumber (DateRead.Good d) = 0
 dateNumber DateRead.Wrong = 12
 
-unfoldable pub momentNumber : MomentRead → ℕ
+abbrev pub momentNumber : MomentRead → ℕ
 momentNumber (MomentRead.Good m) = 0
 momentNumber MomentRead.Wrong = 12
 

@@ -4,7 +4,7 @@
 use digits::Number;
 ghost use mathlib.Core.Path.{_≡_};
 ghost use Rattle.text.specs.Copy.{placed, after};
-ghost use Rattle.calendar.specs.Dates.{leap, monthLength, isDate, isTime, isMoment, earlier, dateRead, momentRead, dateText, momentText};
+ghost use Rattle.calendar.specs.Dates.{leap, monthLength, isDate, isTime, isMoment, earlier, dateRead, dateNumber, momentRead, momentNumber, dateText, momentText};
 
 // A date as the number YYYYMMDD that its digits spell.
 pub struct Date(pub u64);
@@ -25,6 +25,30 @@ pub enum DateRead {
 pub enum MomentRead {
     Good(Moment),
     Wrong,
+}
+
+impl DateRead {
+    // The number that the desk gets.
+    pub fn number(self) -> u64
+        ensures { λ r. ⌜ r ≡ dateNumber self ⌝ }
+    {
+        match self {
+            DateRead::Good(_) => 0,
+            DateRead::Wrong => 12,
+        }
+    }
+}
+
+impl MomentRead {
+    // The number that the desk gets.
+    pub fn number(self) -> u64
+        ensures { λ r. ⌜ r ≡ momentNumber self ⌝ }
+    {
+        match self {
+            MomentRead::Good(_) => 0,
+            MomentRead::Wrong => 12,
+        }
+    }
 }
 
 // The days of each month of a common year, January at 1.
