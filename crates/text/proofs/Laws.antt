@@ -1,18 +1,18 @@
 -- What callers cite: a run of parts put one behind the other is their join put once; a text in form and its contents tell
 -- each other; equality of bytes is equality.
 -- Assumes nothing.
-use Prim.Native.Nat.{ℕ, zero, suc, _+_, _-_, _≤_, _<_}
+use Prim.Native.Nat.{ℕ, zero, suc, _+_, _-_, _*_, _≤_, _<_}
 use mathlib.Core.Path.{_≡_, refl, sym, ap, _∙_}
 use mathlib.Core.Bool.{Bool, true, false, _&&_, cond, and-assoc, and-true, true≢false}
 use mathlib.Core.List.{List, [], _∷_, _++_, append-assoc, append-nil}
-use native.Mathlib.Nat.{add-zero, add-assoc, add-suc, zero-add, sub-zero, zero-sub, suc-sub-suc, not-suc-le-zero, le-of-suc-le-suc}
+use native.Mathlib.Nat.{zero-mul, suc-mul, add-comm, add-zero, add-assoc, add-suc, zero-add, sub-zero, zero-sub, suc-sub-suc, not-suc-le-zero, le-of-suc-le-suc}
 use native.Mathlib.Numerals.{add-one}
 use native.Mathlib.Omega.{arith}
 use lib.Dec.{leb, eqb}
 use lib.ListN.{length, take, drop, set, replicate, length-append, length-take, length-drop, length-replicate, take-append-drop}
 use lib.Seq.{take-at, drop-at, drop-drop, length-take-le, take-all, drop-length, take-set-le, set-split}
 use borrow.Author.Tests.{le-leb, leb-true, eq-eqb, ne-eqb, eqb-true}
-use Rattle.text.specs.Bytes.{begins, same, before}
+use Rattle.text.specs.Bytes.{begins, same, before, parts}
 use Rattle.text.specs.Classes.{inClass, allIn}
 use Rattle.text.specs.Copy.{over, fits, placed, after}
 use Rattle.text.specs.Texts.{blank, contents, textOf, inForm}
@@ -43,6 +43,20 @@ pub drop-replicate : (k n a : ℕ) → drop k (replicate {A = ℕ} n a) ≡ repl
 drop-replicate zero n a = rw sub-zero
 drop-replicate (suc k) zero a = rw zero-sub
 drop-replicate (suc k) (suc n) a = drop-replicate k n a ∙ rw suc-sub-suc
+
+-- the parts from the i-th on: that part, and those behind it
+pub parts-from : (width n i : ℕ) (s : List ℕ) → i < n → drop i (parts width n s) ≡ take width (drop (i * width) s) ∷ drop (i + 1) (parts width n s)
+unfolding parts
+parts-from width zero i s h = absurd (not-suc-le-zero h)
+parts-from width (suc n) zero s h = rw zero-mul
+parts-from width (suc n) (suc i) s h =
+    parts-from width n i (drop width s) (le-of-suc-le-suc h)
+    ∙ rw (drop-drop (i * width) width s, suc-mul i width, add-comm (i * width) width, add-one, add-one)
+
+pub length-parts : (width n : ℕ) (s : List ℕ) → length (parts width n s) ≡ n
+unfolding parts
+length-parts width zero s = refl
+length-parts width (suc n) s = ap suc (length-parts width n (drop width s))
 
 -- ---- equality of bytes
 

@@ -1,11 +1,12 @@
 -- Text as document 01 prints it, as the list of its bytes, and how a part of a message is held against a key.
-use Prim.Native.Nat.{ℕ}
+use Prim.Native.Nat.{ℕ, zero, suc}
 use Prim.Native.Char.{code}
 use Prim.Native.String
 use Prim.Native.String.{String}
 use mathlib.Core.Bool.{Bool, true, false, _&&_, cond}
 use mathlib.Core.List.{List, [], _∷_}
 use lib.Dec.{eqb}
+use lib.ListN.{take, drop}
 
 -- the bytes of a text that is written out, so that a key reads `bytes ":20C::SEME"`
 unfoldable pub bytes : String → List ℕ
@@ -29,3 +30,8 @@ same (k ∷ key) (b ∷ part) = eqb b k && same key part
 unfoldable pub before : ℕ → List ℕ → List ℕ
 before b [] = []
 before b (x ∷ s) = cond (eqb x b) [] (x ∷ before b s)
+
+-- the first n parts of a text that is cut into parts of one width
+unfoldable pub parts : ℕ → ℕ → List ℕ → List (List ℕ)
+parts width zero s = []
+parts width (suc n) s = take width s ∷ parts width n (drop width s)
