@@ -195,6 +195,15 @@ length-placed buf at s = go (fits buf at s) refl
     go true e = length-over buf at s (leb-true _ _ e)
     go false e = refl
 
+-- from a place within the buffer, the place behind what is put lies within it too
+pub after-within : (buf : List ℕ) (at : ℕ) (s : List ℕ) → at ≤ length buf → after buf at s ≤ length buf
+unfolding after fits
+after-within buf at s h = go (fits buf at s) refl
+  where
+    go : (b : Bool) → fits buf at s ≡ b → cond b (at + length s) at ≤ length buf
+    go true e = leb-true _ _ e
+    go false e = h
+
 -- a part as long as the buffer takes its place
 pub placed-all : (buf s : List ℕ) → length s ≡ length buf → placed buf 0 s ≡ s
 unfolding placed fits over
