@@ -1,0 +1,215 @@
+#!/usr/bin/env python3
+"""The form of the promises.
+
+Every `pub fn` of every crate's sources has an `ensures` and no `requires`, but for the functions that docs/PROMISES.md lists
+under "## Functions with a requires", each with its reason; and every one of them is named in that file.
+
+Usage: promises.py ROOT           check the repository at ROOT
+       promises.py --self-test    check this program on a made-up source
+
+Prints a line for each violation, and last `ok, N public functions` or `K violations` (exit status 1).
+"""
+import re
+import sys
+from pathlib import Path
+
+HEADING = "## Functions with a requires"
+
+# what is no code: comments, byte strings and strings, byte literals
+SILENT = re.compile(r'//[^\n]*|/\*.*?\*/|"(?:\\.|[^"\\])*"|\bb\'(?:\\x[0-9A-Fa-f]{2}|\\.|[^\\\'\n])\'', re.S)
+FUNCTION = re.compile(r'\bpub\s+(?:extern\s+"[^"]*"\s+)?fn\s+(\w+)')
+IMPL = re.compile(r'\bimpl\s+(\w+)[^{;]*\{')
+CLAUSE = re.compile(r'\b(requires|ensures)\b|[\[({;]')
+ENTRY = re.compile(r'- `([\w:]+)`: *(\S.*)')
+
+
+def blanked(source):
+    """The source with each comment and literal made blank, in place, so that what is left is code."""
+    return SILENT.sub(lambda m: re.sub(r'[^\n"]', ' ', m.group()), source)
+
+
+def closing(code, at):
+    """The place behind the bracket that closes the one at `at`."""
+    depth = 0
+    for i in range(at, len(code)):
+        if code[i] in '([{':
+            depth += 1
+        elif code[i] in ')]}':
+            depth -= 1
+            if depth == 0:
+                return i + 1
+    return len(code)
+
+
+def clauses(code, at):
+    """The kinds of the clauses of the contract that starts at `at`, up to the body."""
+    found = []
+    while True:
+        m = CLAUSE.search(code, at)
+        if not m or m.group() in '{;':
+            return found
+        if m.group(1):
+            found.append(m.group(1))
+            at = closing(code, code.index('{', m.end()))
+        else:
+            at = closing(code, m.start())
+
+
+def functions(crate, source):
+    """The public functions of a source: (crate::name or crate::Type::name, its line, the kinds of its clauses)."""
+    code = blanked(source)
+    impls = [(m.group(1), m.start(), closing(code, m.end() - 1)) for m in IMPL.finditer(code)]
+    found = []
+    for m in FUNCTION.finditer(code):
+        path = [crate] + [name for name, start, end in impls if start < m.start() < end] + [m.group(1)]
+        parameters = code.index('(', m.end())
+        found.append(('::'.join(path), code.count('\n', 0, m.start()) + 1, clauses(code, closing(code, parameters))))
+    return found
+
+
+def exceptions(page):
+    """What the page lists under the heading: the functions' names, and the lines that are not of the form."""
+    listed, odd, inside = [], [], False
+    for number, line in enumerate(page.splitlines(), 1):
+        if re.match(r'##? ', line):
+            inside = line.strip() == HEADING
+        elif inside and line.startswith('- '):
+            m = ENTRY.match(line)
+            if m:
+                listed.append(m.group(1))
+            else:
+                odd.append(number)
+    return listed, odd
+
+
+def violations(found, page):
+    """A line for each violation. `found` has (file, name, line, clauses); `page` is docs/PROMISES.md, None where it is not there."""
+    listed, odd = exceptions(page or '')
+    said = [f'docs/PROMISES.md:{number}: an exception is "- `crate::function`: reason"' for number in odd]
+    named = set()
+    for span in re.findall(r'`([^`\n]+)`', page or ''):
+        named.add(re.split(r'[(\s]', span)[0])
+    requiring = set()
+    for file, name, line, kinds in found:
+        if 'requires' in kinds:
+            requiring.add(name)
+        if 'ensures' not in kinds:
+            said.append(f'{file}:{line}: {name} has no ensures')
+        if 'requires' in kinds and name not in listed:
+            said.append(f'{file}:{line}: {name} has a requires and is not listed')
+        if page is not None and not named & {name, name.split('::', 1)[1]}:
+            said.append(f'{file}:{line}: docs/PROMISES.md does not name {name}')
+    known = {name for _, name, _, _ in found}
+    for name in listed:
+        if name not in known:
+            said.append(f'docs/PROMISES.md: {name} is listed, and there is no such public function')
+        elif name not in requiring:
+            said.append(f'docs/PROMISES.md: {name} is listed, and has no requires')
+    return said
+
+
+def check(root):
+    found = []
+    for path in sorted(root.glob('crates/*/src/**/*.rt')):
+        file = path.relative_to(root)
+        source = path.read_text(encoding='utf-8')
+        found += [(file, *function) for function in functions(file.parts[1], source)]
+    page = root / 'docs' / 'PROMISES.md'
+    if page.is_file():
+        said = violations(found, page.read_text(encoding='utf-8'))
+    else:
+        print('docs/PROMISES.md is not there: that it names every function is passed over')
+        said = violations(found, None)
+    if not found:
+        said.append('there is no public function under crates/')
+    for line in said:
+        print(line)
+    print(f'{len(said)} violations' if said else f'ok, {len(found)} public functions')
+    return 1 if said else 0
+
+
+SOURCE = """
+// pub fn told(x: u8) -> u8 { x }
+fn inner() -> bool { b"pub fn shown()" == b'{' }
+
+#[no_mangle]
+pub extern "C" fn good(
+    part: &[u8], // with a requires
+    at: usize,
+) -> [u8; 4]
+    ensures whole { λ r. ⌜ r ≡ record { at = at } ⌝ }
+{
+    inner(b'}')
+}
+
+impl Held {
+    pub const NONE: Held = Held { at: 0 };
+
+    pub fn silent(self) -> Held {
+        // ensures { nothing }
+        self
+    }
+}
+
+pub fn choosy<'a>(x: &'a [u8]) -> u8
+    requires { ⌜ 1 ≤ length (now x) ⌝ }
+    ensures { λ r. ⌜ r ≡ x' ⌝ }
+{
+    x[0]
+}
+"""
+
+PAGE = """
+`good` and `Held::silent` and `c::choosy`.
+
+## Functions with a requires
+
+- `c::choosy`: only its sibling calls it.
+- `c::good`: none.
+- `c::gone`: none.
+- c::odd
+
+## Others
+
+- `c::silent`: no exception.
+"""
+
+
+def self_test():
+    found = [('f', *function) for function in functions('c', SOURCE)]
+    expected = [
+        ('f', 'c::good', 6, ['ensures']),
+        ('f', 'c::Held::silent', 18, []),
+        ('f', 'c::choosy', 24, ['requires', 'ensures']),
+    ]
+    silent = 'f:18: c::Held::silent has no ensures'
+    choosy = 'f:24: c::choosy has a requires and is not listed'
+    cases = [
+        (found, expected),
+        (violations(found, None), [silent, choosy]),
+        (violations(found, '`good`, `silent`, `choosy(x)`'), [silent, 'f:18: docs/PROMISES.md does not name c::Held::silent', choosy]),
+        (violations(found, PAGE), [
+            'docs/PROMISES.md:9: an exception is "- `crate::function`: reason"',
+            silent,
+            'docs/PROMISES.md: c::good is listed, and has no requires',
+            'docs/PROMISES.md: c::gone is listed, and there is no such public function',
+        ]),
+    ]
+    wrong = [(got, wanted) for got, wanted in cases if got != wanted]
+    for got, wanted in wrong:
+        print(f'self-test: got {got}\n     expected {wanted}')
+    print('self-test failed' if wrong else 'self-test ok')
+    return 1 if wrong else 0
+
+
+def main(words):
+    if words == ['--self-test']:
+        return self_test()
+    if len(words) == 1 and not words[0].startswith('-'):
+        return check(Path(words[0]))
+    print(__doc__, file=sys.stderr)
+    return 2
+
+
+if __name__ == '__main__':
+    sys.exit(main(sys.argv[1:]))
