@@ -85,6 +85,9 @@ begins-is (k ∷ key) (b ∷ part) e =
     let t : part ≡ key ++ drop (length key) part = begins-is key part (and-right (eqb b k) _ e) in
     rw h (ap (λ (l : List ℕ). k ∷ l) t)
 
+pub begins-length : (key part : List ℕ) → begins key part ≡ true → length key ≤ length part
+begins-length key part e = let l = ap length (begins-is key part e) ∙ length-append key _ in omega arith
+
 pub begins-append : (key rest : List ℕ) → begins key (key ++ rest) ≡ true
 unfolding begins
 begins-append [] rest = refl

@@ -1,0 +1,72 @@
+-- `forms::fixed_text` meets its contract. Assumes nothing.
+use Rattle.forms.specs.Forms.{Slot}
+use mathlib.Core.List.{List}
+use Prim.Native.Nat.{ℕ}
+use mathlib.Core.Path.{sym, ap, refl}
+use Rattle.forms.proofs.Turns.{slot-none, fixed-part}
+use borrow.Author.Needs.{needs}
+use Rattle.forms.proofs.fixed_text.Statement.{statement}
+use Rattle.forms.proofs.fixed_text.Tie as tie
+
+slice-aggregate-result : tie.Need-slice-aggregate-result
+slice-aggregate-result c = search needs
+
+returns : tie.Need-returns
+returns c = sym (ap (λ (s : Slot). s .fixed) (slot-none _ _ (c .before .if1 .taken)))
+
+mul-at : tie.Need-mul-at
+mul-at c = search needs
+
+add-bytes : tie.Need-add-bytes
+add-bytes c = search needs
+
+sub-bytes : tie.Need-sub-bytes
+sub-bytes c = search needs
+
+part-bytes-start : tie.Need-part-bytes-start
+part-bytes-start c = search needs
+
+part-bytes-end : tie.Need-part-bytes-end
+part-bytes-end c = search needs
+
+shared-slice-read-len : tie.Need-shared-slice-read-len
+shared-slice-read-len c = search needs
+
+cast-len : tie.Need-cast-len
+cast-len c = search needs
+
+add-result : tie.Need-add-result
+add-result c = search needs
+
+sub-result : tie.Need-sub-result
+sub-result c = search needs
+
+part-result-start : tie.Need-part-result-start
+part-result-start c = search needs
+
+part-result-end : tie.Need-part-result-end
+part-result-end c = search needs
+
+returns-2 : tie.Need-returns-2
+returns-2 c =
+    let e = c .before .before in
+    fixed-part (e .before .before .args .slots .now) (e .before .before .args .slot) (e .before .if1 .left) _ refl
+
+pub fixed-text-spec : {M : Type 1} → statement M
+fixed-text-spec =
+    tie.close
+    (tie.spec
+    slice-aggregate-result
+    returns
+    mul-at
+    add-bytes
+    sub-bytes
+    part-bytes-start
+    part-bytes-end
+    shared-slice-read-len
+    cast-len
+    add-result
+    sub-result
+    part-result-start
+    part-result-end
+    returns-2)

@@ -1,0 +1,60 @@
+-- Document 01, the numbers 10, 11 and 12: the value of a line, by its slot's fixed text and form.
+--   10  the fixed text is wrong; in values other than 11's and 12's, width, characters or code word
+--   11  an amount is wrong in any way
+--   12  a date or time is wrong in any way
+use Prim.Native.Nat.{ℕ, suc}
+use mathlib.Core.Bool.{Bool, true, false, _&&_, _||_, cond}
+use mathlib.Core.List.{List, [], _∷_}
+use lib.Dec.{leb, ltb, eqb}
+use lib.ListN.{length, drop}
+use Rattle.text.specs.Bytes.{begins, same}
+use Rattle.text.specs.Classes.{allIn}
+use Rattle.text.specs.declared.Class.the-variants.{C}
+use Rattle.amount.specs.Amounts.{amountRead, amountNumber}
+use Rattle.calendar.specs.Dates.{dateRead, dateNumber, momentRead, momentNumber}
+
+--   nothing   no more than the fixed text
+--   codes     from a least to a most number of c
+--   words     one of some words
+--   other     a form that the message type judges by itself
+pub data Form : Type 0 where
+  nothing : Form
+  codes : ℕ → ℕ → Form
+  words : List (List ℕ) → Form
+  amount : Form
+  date : Form
+  moment : Form
+  other : Form
+
+pub record Slot : Type 0 where
+  pub fixed : List ℕ
+  pub form : Form
+
+-- from a least to a most number of c
+unfoldable pub isCode : ℕ → ℕ → List ℕ → Bool
+isCode least most v = leb least (length v) && (leb (length v) most && allIn C v)
+
+-- the place of a value among words, counted from 0; their number where it is none of them
+unfoldable pub wordAt : List (List ℕ) → List ℕ → ℕ
+wordAt [] v = 0
+wordAt (w ∷ ws) v = cond (same w v) 0 (suc (wordAt ws v))
+
+unfoldable pub isWord : List (List ℕ) → List ℕ → Bool
+isWord ws v = ltb (wordAt ws v) (length ws)
+
+unfoldable pub unless : Bool → ℕ
+unless b = cond b 0 10
+
+-- what follows the fixed text
+unfoldable pub formNumber : Form → List ℕ → ℕ
+formNumber nothing v = unless (eqb (length v) 0)
+formNumber (codes least most) v = unless (isCode least most v)
+formNumber (words ws) v = unless (isWord ws v)
+formNumber amount v = amountNumber (amountRead v)
+formNumber date v = dateNumber (dateRead v)
+formNumber moment v = momentNumber (momentRead v)
+formNumber other v = 0
+
+-- all that follows a slot's qualifier
+unfoldable pub valueNumber : Slot → List ℕ → ℕ
+valueNumber slot v = cond (begins (slot .fixed) v) (formNumber (slot .form) (drop (length (slot .fixed)) v)) 10
