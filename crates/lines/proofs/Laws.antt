@@ -1,0 +1,181 @@
+-- What callers cite: how the lines of a message go on from a place, how passes come one after the other, and what is known of
+-- a message that has passed.
+-- Assumes nothing.
+use Prim.Native.Nat.{ℕ, suc, _+_, _-_, _≤_, _<_, min}
+use mathlib.Core.Path.{_≡_, refl, sym, ap, _∙_}
+use mathlib.Core.Bool.{Bool, true, false, _&&_, not, cond}
+use mathlib.Core.List.{List, [], _∷_, _++_}
+use native.Mathlib.Nat.{not-suc-le-zero}
+use native.Mathlib.Numerals.{add-one}
+use native.Mathlib.Omega.{arith}
+use lib.Dec.{leb, eqb}
+use lib.ListN.{length, take, drop, length-take, length-drop, drop-of-length-le}
+use lib.Seq.{take-take, drop-drop, drop-length}
+use borrow.Author.Tests.{leb-true, leb-false, eq-eqb, ne-eqb, eqb-true}
+use Rattle.text.specs.Bytes.{bytes, same, before}
+use Rattle.text.proofs.Laws.{and-left, and-right, before-front, before-length, same-eq}
+use Rattle.lines.specs.Verdicts.{refused, pass, then}
+use Rattle.lines.specs.Lines.{inFront, cutLines, bare, linesOf, ended, sizePass, bytePass, endPass, linesPass, lineAt}
+use Rattle.lines.specs.declared.Verdict.{Verdict}
+use Rattle.lines.specs.declared.Line.{Line}
+
+-- ---- passes, one after the other
+
+-- a refusal is the answer of the whole chain; a pass leaves it to what follows
+module _ (v p r : Verdict) (is : v ≡ p) where
+  pub stop : (v .number ≡ 0 → ⊥) → v ≡ then p r
+  unfolding then
+  stop h = rw (← is, ne-eqb (v .number) 0 h)
+
+  pub go : v .number ≡ 0 → r ≡ then p r
+  unfolding then
+  go h = rw (← is, eq-eqb (v .number) 0 h)
+
+-- a chain that passes has passed at each place
+pub then-zero : (v w : Verdict) → then v w .number ≡ 0 → (v .number ≡ 0) × (w .number ≡ 0)
+unfolding then
+then-zero v w e = at (eqb (v .number) 0) refl e
+  where
+    at : (t : Bool) → eqb (v .number) 0 ≡ t → cond t w v .number ≡ 0 → (v .number ≡ 0) × (w .number ≡ 0)
+    at true h z = (eqb-true _ _ h, z)
+    at false h z = let y : _≡_ {A = Bool} false true = sym h ∙ eq-eqb _ _ z in let x : _≡_ {A = ℕ} 0 1 = cc in absurd (omega arith)
+
+-- ---- a line without its CR
+
+-- it is what the line begins with
+pub bare-front : (s : List ℕ) → take (length (bare s)) s ≡ bare s
+unfolding bare
+bare-front [] = refl
+bare-front (b ∷ []) = at (eqb b 13)
+  where
+    at : (t : Bool) → take (length (cond t [] (b ∷ []))) (b ∷ []) ≡ cond t [] (b ∷ [])
+    at true = refl
+    at false = refl
+bare-front (b ∷ c ∷ s) = ap (λ (l : List ℕ). b ∷ l) (bare-front (c ∷ s))
+
+pub bare-length : (s : List ℕ) → length (bare s) ≤ length s
+bare-length s = let e = ap length (bare-front s) in let l = length-take (length (bare s)) s in omega arith
+
+-- ---- the lines of a message, from the front
+
+cut-step : (b : ℕ) (s : List ℕ) → cutLines (b ∷ s) ≡ before 10 (b ∷ s) ∷ cutLines (drop (suc (length (before 10 (b ∷ s)))) (b ∷ s))
+unfolding cutLines inFront before
+cut-step b [] = at (eqb b 10)
+  where
+    at : (t : Bool) → cond t ([] ∷ []) ((b ∷ []) ∷ []) ≡ cond t [] (b ∷ []) ∷ cutLines (drop (length (cond t [] (b ∷ []))) [])
+    at true = refl
+    at false = refl
+cut-step b (c ∷ s) = at (cut-step c s) (eqb b 10)
+  where
+    at : cutLines (c ∷ s) ≡ before 10 (c ∷ s) ∷ cutLines (drop (suc (length (before 10 (c ∷ s)))) (c ∷ s)) → (t : Bool)
+        → cond t ([] ∷ cutLines (c ∷ s)) (inFront b (cutLines (c ∷ s)))
+        ≡ cond t [] (b ∷ before 10 (c ∷ s)) ∷ cutLines (drop (length (cond t [] (b ∷ before 10 (c ∷ s)))) (c ∷ s))
+    at ih true = refl
+    at ih false = ap (inFront b) ih
+
+-- a message that is not empty is its first line and the lines behind that
+pub lines-step : (s : List ℕ) → 0 < length s → linesOf s ≡ bare (before 10 s) ∷ linesOf (drop (length (before 10 s) + 1) s)
+unfolding linesOf
+lines-step [] h = absurd (not-suc-le-zero h)
+lines-step (b ∷ s) h = rw (add-one, cut-step b s)
+
+pub lines-none : linesOf [] ≡ []
+unfolding linesOf cutLines
+lines-none = refl
+
+-- ---- the same by places
+
+drop-min : (k : ℕ) (s : List ℕ) → drop (min k (length s)) s ≡ drop k s
+drop-min k s = at (leb k (length s)) refl
+  where
+    at : (t : Bool) → leb k (length s) ≡ t → drop (min k (length s)) s ≡ drop k s
+    at true e = let h : k ≤ length s = leb-true _ _ e in let n : min k (length s) ≡ k = omega arith in rw n
+    at false e =
+        let h : length s < k = leb-false _ _ e in
+        let n : min k (length s) ≡ length s = omega arith in
+        let l : length s ≤ k = omega arith in
+        rw (n, drop-length s, drop-of-length-le s l)
+
+-- a line from a place within a message: where its text ends, where the next line begins, and how the lines go on
+pub record Located (m : List ℕ) (at end next : ℕ) : Type 0 where
+  pub starts : at ≤ end
+  pub ends : end ≤ next
+  pub grows : at < next
+  pub within : next ≤ length m
+  pub go-on : linesOf (drop at m) ≡ take (end - at) (drop at m) ∷ linesOf (drop next m)
+
+pub located : (m : List ℕ) (at : ℕ) (r : Line) → r ≡ lineAt m at → at < length m → Located m at (r .end) (r .next)
+unfolding lineAt
+located m at r e h =
+    let d : List ℕ = drop at m in
+    let raw : List ℕ = before 10 d in
+    let ld : length d ≡ length m - at = length-drop at m in
+    let lr : length raw ≤ length d = before-length 10 d in
+    let lb : length (bare raw) ≤ length raw = bare-length raw in
+    let width : at + length (bare raw) - at ≡ length (bare raw) = omega arith in
+    let text : take (length (bare raw)) d ≡ bare raw =
+    sym (take-take (length (bare raw)) (length raw) d lb) ∙ ap (take (length (bare raw))) (before-front 10 d) ∙ bare-front raw
+    in let behind : drop (at + min (length raw + 1) (length d)) m ≡ drop (length raw + 1) d = sym (drop-drop _ at m) ∙ drop-min (length raw + 1) d
+    in rw e record {
+      starts = omega arith;
+      ends = omega arith;
+      grows = omega arith;
+      within = omega arith;
+      go-on = lines-step d (omega arith) ∙ rw (width, text, behind);
+    }
+
+-- behind the end there are no lines
+pub lines-behind : (m : List ℕ) (at : ℕ) → length m ≤ at → linesOf (drop at m) ≡ []
+lines-behind m at h = ap linesOf (drop-of-length-le m h) ∙ lines-none
+
+-- ---- a message that has passed
+
+-- none of the lines is `-`
+unfoldable pub plain : List (List ℕ) → Bool
+plain [] = true
+plain (l ∷ ls) = not (same (bytes "-") l) && plain ls
+
+-- the last line is `-` and no other is
+pub record Closed (ls : List (List ℕ)) : Type 0 where
+  pub body : List (List ℕ)
+  pub split : ls ≡ body ++ (bytes "-" ∷ [])
+  pub early : plain body ≡ true
+
+pub record Passed (m : List ℕ) : Type 0 where
+  pub some : 1 ≤ length m
+  pub short : length m ≤ 4096
+  pub bytes : bytePass 1 m .number ≡ 0
+  pub end : ended m ≡ true
+  pub closed : Closed (linesOf m)
+
+end-zero : (e : Bool) (n : ℕ) (ls : List (List ℕ)) → endPass e n ls .number ≡ 0 → (e ≡ true) × Closed ls
+unfolding endPass refused pass plain
+end-zero e n [] z = let no : ⊥ = omega arith in absurd no
+end-zero e n (l ∷ []) z = at (same (bytes "-") l && e) refl z
+  where
+    at : (t : Bool) → (same (bytes "-") l && e) ≡ t → cond t pass (refused 3 n) .number ≡ 0 → (e ≡ true) × Closed (l ∷ [])
+    at true h z =
+        let is : bytes "-" ≡ l = same-eq _ _ (and-left _ _ h) in
+        (and-right (same (bytes "-") l) e h, record { body = []; split = rw is; early = refl })
+    at false h z = let no : ⊥ = omega arith in absurd no
+end-zero e n (l ∷ k ∷ ls) z = at (end-zero e (suc n) (k ∷ ls)) (same (bytes "-") l) refl z
+  where
+    at : (endPass e (suc n) (k ∷ ls) .number ≡ 0 → (e ≡ true) × Closed (k ∷ ls)) → (t : Bool) → same (bytes "-") l ≡ t
+        → cond t (refused 3 n) (endPass e (suc n) (k ∷ ls)) .number ≡ 0 → (e ≡ true) × Closed (l ∷ k ∷ ls)
+    at ih true h z = let no : ⊥ = omega arith in absurd no
+    at ih false h z =
+        let r = ih z in
+        (r .0, record { body = l ∷ r .1 .body; split = ap (λ (x : List (List ℕ)). l ∷ x) (r .1 .split); early = rw h (r .1 .early) })
+
+pub passed : (m : List ℕ) → linesPass m .number ≡ 0 → Passed m
+unfolding linesPass sizePass refused
+passed m z =
+    let sized = then-zero (sizePass m) _ z in
+    let scanned = then-zero (bytePass 1 m) _ (sized .1) in
+    let last = end-zero _ _ _ (scanned .1) in
+    let size : (1 ≤ length m) × (length m ≤ 4096) = at (leb 1 (length m) && leb (length m) 4096) refl (sized .0) in
+    record { some = size .0; short = size .1; bytes = scanned .0; end = last .0; closed = last .1 }
+  where
+    at : (t : Bool) → (leb 1 (length m) && leb (length m) 4096) ≡ t → cond t pass (refused 1 0) .number ≡ 0 → (1 ≤ length m) × (length m ≤ 4096)
+    at true h z = (leb-true _ _ (and-left _ _ h), leb-true _ _ (and-right (leb 1 (length m)) _ h))
+    at false h z = let no : ⊥ = omega arith in absurd no
