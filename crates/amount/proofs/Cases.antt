@@ -9,4 +9,4 @@ use Rattle.amount.specs.Cases.{cases, Answered}
 
 pub answered : Answered
 unfolding cases bytes before allIn inClass isDigit isBetween numeral numeralFrom digits whole decimals isAmount trimmed joined shortened tidy valueFrom valueOf amountRead inForm spread amountText
-answered = (refl, refl)
+answered = (refl, refl, refl, refl)

@@ -80,6 +80,13 @@ spread a = take (14 - a .decimals) (digits 14 (a .number)) ++ 44 ∷ drop (14 - 
 unfoldable pub amountText : Amount → List ℕ
 amountText a = cond (inForm a) (tidy (spread a)) []
 
+-- the named zero and the named largest value of each kind: fourteen nines
+abbrev pub nought : Amount
+nought = record { number = 0; decimals = 0 }
+
+abbrev pub most : Amount
+most = record { number = 99999999999999; decimals = 0 }
+
 -- ---- steps of the code
 
 -- a whole part and decimals that are both digits

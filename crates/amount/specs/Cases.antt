@@ -5,7 +5,7 @@ use Prim.Native.String.{String}
 use mathlib.Core.Path.{_≡_}
 use mathlib.Core.List.{List, [], _∷_, map}
 use Rattle.text.specs.Bytes.{bytes}
-use Rattle.amount.specs.Amounts.{amountRead, amountText, tidy}
+use Rattle.amount.specs.Amounts.{amountRead, amountNumber, amountText, tidy, nought, most}
 use Rattle.amount.specs.declared.Amount.{Amount}
 use Rattle.amount.specs.declared.AmountRead.{AmountRead}
 use Rattle.amount.specs.declared.AmountRead.the-variants.{Good, Wrong}
@@ -38,13 +38,19 @@ cases =
     ∷ ("", Wrong, "")
     ∷ []
 
--- what is written of what was read
+-- what is written of what was read, and the tidied text of what is an amount's
 abbrev pub written : AmountRead → List ℕ
 written (Good a) = amountText a
 written Wrong = []
 
--- each text is read as the table says, and what was read is written as its tidied text
+abbrev pub tidied : AmountRead → List ℕ → List ℕ
+tidied (Good a) s = tidy s
+tidied Wrong s = []
+
+-- each text is read as the table says, and what is none gets 11; what was read is written as its tidied text
 abbrev pub Answered : Type 0
 Answered =
     (map (λ row. amountRead (bytes (row .0))) cases ≡ map (λ row. row .1) cases)
     × (map (λ row. written (amountRead (bytes (row .0)))) cases ≡ map (λ row. bytes (row .2)) cases)
+    × (map (λ row. tidied (amountRead (bytes (row .0))) (bytes (row .0))) cases ≡ map (λ row. bytes (row .2)) cases)
+    × (amountNumber Wrong ≡ 11)

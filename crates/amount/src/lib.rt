@@ -8,7 +8,7 @@ ghost use mathlib.Core.Path.{_≡_};
 ghost use Prim.Native.Nat.{_+_, _≤_};
 ghost use lib.ListN.{length};
 ghost use Rattle.text.specs.Copy.{placed, after};
-ghost use Rattle.amount.specs.Amounts.{shortened, noughts, partsRead, amountRead, amountNumber, inForm, spread, amountText};
+ghost use Rattle.amount.specs.Amounts.{shortened, noughts, partsRead, amountRead, amountNumber, inForm, spread, amountText, nought, most};
 
 // The digits of an amount as one whole number, and how many of them are decimals.
 pub struct Amount {
@@ -94,6 +94,18 @@ impl Amount {
         decimals: 0,
     };
 
+    pub fn zero() -> Amount
+        ensures { λ r. ⌜ r ≡ nought ⌝ }
+    {
+        Amount::ZERO
+    }
+
+    pub fn largest() -> Amount
+        ensures { λ r. ⌜ r ≡ most ⌝ }
+    {
+        Amount::MAX
+    }
+
     // A part of a message as an amount.
     pub fn read(part: &[u8]) -> AmountRead
         ensures { λ r. ⌜ r ≡ amountRead (now (part .entry)) ⌝ }
@@ -163,6 +175,18 @@ impl Par {
 
     pub const MAX: Par = Par(Amount::MAX);
 
+    pub fn zero() -> Par
+        ensures { λ r. ⌜ r .0 ≡ nought ⌝ }
+    {
+        Par::ZERO
+    }
+
+    pub fn largest() -> Par
+        ensures { λ r. ⌜ r .0 ≡ most ⌝ }
+    {
+        Par::MAX
+    }
+
     pub fn of(amount: Amount) -> Par
         ensures { λ r. ⌜ r .0 ≡ amount ⌝ }
     {
@@ -178,6 +202,18 @@ impl Price {
 
     pub const MAX: Price = Price(Amount::MAX);
 
+    pub fn zero() -> Price
+        ensures { λ r. ⌜ r .0 ≡ nought ⌝ }
+    {
+        Price::ZERO
+    }
+
+    pub fn largest() -> Price
+        ensures { λ r. ⌜ r .0 ≡ most ⌝ }
+    {
+        Price::MAX
+    }
+
     pub fn of(amount: Amount) -> Price
         ensures { λ r. ⌜ r .0 ≡ amount ⌝ }
     {
@@ -192,6 +228,18 @@ impl Money {
     pub const ZERO: Money = Money(Amount::ZERO);
 
     pub const MAX: Money = Money(Amount::MAX);
+
+    pub fn zero() -> Money
+        ensures { λ r. ⌜ r .0 ≡ nought ⌝ }
+    {
+        Money::ZERO
+    }
+
+    pub fn largest() -> Money
+        ensures { λ r. ⌜ r .0 ≡ most ⌝ }
+    {
+        Money::MAX
+    }
 
     pub fn of(amount: Amount) -> Money
         ensures { λ r. ⌜ r .0 ≡ amount ⌝ }

@@ -47,7 +47,7 @@ fn value(digit: u8) -> u64
     (digit - 48) as u64
 }
 
-// The number that a part of at most eighteen digits spells.
+// The number that a part of at most eighteen digits spells; no digits spell 0.
 pub fn read_digits(part: &[u8]) -> Number
     ensures { λ r. ⌜ r ≡ numberOf (now (part .entry)) ⌝ }
 {

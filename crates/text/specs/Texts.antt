@@ -1,5 +1,5 @@
 -- Document 01, "Plain form, and the record": in a record a text is its bytes and its length, with zero bytes after.
--- Length 0 means absent.
+-- Length 0 means absent, except that a password of length 0 is a blank password.
 use Prim.Native.Nat.{ℕ, _-_}
 use mathlib.Core.Bool.{Bool, _&&_, cond}
 use mathlib.Core.List.{List, _++_}
@@ -21,7 +21,8 @@ contents t = take (t .len) (t .bytes)
 unfoldable pub textOf : List ℕ → Text
 textOf s = cond (leb (length s) 20) (record { bytes = s ++ replicate {A = ℕ} (20 - length s) 0; len = length s }) blank
 
--- a text of a record is in form for a slot that takes from `least` to `most` c
+-- a text of a record is in form for a slot that takes from `least` to `most` c; that it has twenty bytes is its type's, and
+-- is said here so that a text in form tells all of itself
 unfoldable pub inForm : ℕ → ℕ → Text → Bool
 inForm least most t =
     eqb (length (t .bytes)) 20

@@ -17,7 +17,7 @@ pub enum Class {
     Zero,
 }
 
-// A text of a record: twenty bytes, of which the first `len` are the text and the others are zero.
+// A text of a record: twenty bytes, of which the first `len` are the text and the others are zero, where it is in form.
 pub struct Text {
     pub bytes: [u8; 20],
     pub len: usize,
@@ -102,7 +102,8 @@ pub fn find(part: &[u8], byte: u8) -> usize
 }
 
 // Puts a part into a lent buffer at a place and answers the place behind it. Where the room is short nothing is put and
-// the place stays, so that a caller that measured first never sees half of it.
+// the place stays, so that half of a part is never seen. A run of several parts is whole only where their joint length was
+// measured first.
 pub fn put(buf: &mut [u8], at: usize, part: &[u8]) -> usize
     ensures { λ r. ⌜ (r ≡ after (now (buf .entry)) at (now (part .entry))) × (now (buf .exit) ≡ placed (now (buf .entry)) at (now (part .entry))) ⌝ }
 {
@@ -138,7 +139,8 @@ impl Text {
         len: 0,
     };
 
-    // A part of a message as a text; one that is longer than any text gives no text, and is never cut.
+    // A part of a message as a text; one that is longer than any text gives no text, and is never cut. So its width is to
+    // be judged on the part, before.
     pub fn of(part: &[u8]) -> Text
         ensures { λ r. ⌜ r ≡ textOf (now (part .entry)) ⌝ }
     {

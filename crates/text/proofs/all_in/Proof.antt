@@ -1,3 +1,5 @@
+-- `text::all_in` meets its contract. The loop's invariant: what is left of the part answers as the whole does.
+-- Assumes nothing.
 use Prim.Native.Nat.{ℕ, _≤_, _-_}
 use mathlib.Core.Path.{_≡_, sym, _∙_}
 use native.Mathlib.Omega.{arith}
@@ -15,39 +17,31 @@ Inv-loop class part i₀ i = (i ≤ length part) × (allIn class (drop i part) �
 abbrev μ-loop : tie.MeasureT-loop
 μ-loop class part i₀ i = length part - i
 
--- src/lib.rt:47:5
 loop-holds : tie.Need-loop-holds Inv-loop μ-loop
 loop-holds c = search needs
 
--- src/lib.rt:48:29
 shared-slice-read-in-class : tie.Need-shared-slice-read-in-class Inv-loop μ-loop
 shared-slice-read-in-class c = search needs
 
--- src/lib.rt:48:13
 in-class-requires : tie.Need-in-class-requires Inv-loop μ-loop
 in-class-requires c κs = search needs
 
--- src/lib.rt:49:13
 returns : tie.Need-returns Inv-loop μ-loop
 returns c =
     let at = c .before .before .before .before in
     all-stop _ _ _ (at .loop .inv .1) (c .before .before .before .loop-test .taken) (sym (c .before .in-class .ensures) ∙ not-true _ (c .if1 .taken))
 
--- src/lib.rt:51:9
 add-i : tie.Need-add-i Inv-loop μ-loop
 add-i c = search needs
 
--- src/lib.rt:47:5
 loop-less : tie.Need-loop-less Inv-loop μ-loop
 loop-less c = omega arith
 
--- src/lib.rt:47:5
 loop-again : tie.Need-loop-again Inv-loop μ-loop
 loop-again c =
     let at = c .before .before .before .before in
     (omega arith, all-more _ _ _ (at .loop .inv .1) (c .before .before .before .loop-test .taken) (sym (c .before .in-class .ensures) ∙ not-false _ (c .if1 .left)))
 
--- src/lib.rt:43:1
 returns-2 : tie.Need-returns-2 Inv-loop μ-loop
 returns-2 c = all-done _ _ _ (c .before .loop .inv .1) (c .loop-test .left)
 
