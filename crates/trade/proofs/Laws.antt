@@ -1,0 +1,17 @@
+-- What callers cite: a message without values is held as the blank record.
+-- Assumes nothing.
+use mathlib.Core.Path.{_≡_, refl}
+use mathlib.Core.List.{[]}
+use Rattle.text.specs.Bytes.{bytes, begins, same, before}
+use Rattle.text.specs.Texts.{textOf}
+use Rattle.text.specs.Classes.{allIn}
+use Rattle.digits.specs.Numerals.{fixedOf}
+use Rattle.amount.specs.Amounts.{amountRead, isAmount, whole}
+use Rattle.calendar.specs.Dates.{dateRead, dateFrom, momentRead, momentFrom}
+use Rattle.forms.specs.Forms.{wordAt}
+use Rattle.trade.specs.Narrative.{serviceOf, serviceIn, periodOf, hasPeriod, reasonIn, hasReason, behindPeriod}
+use Rattle.trade.specs.Records.{kindIn, sideIn, partyOf, tradeOf, nobody, never, nought, blankTrade}
+
+pub blank-is : tradeOf (λ slot. []) ≡ blankTrade
+unfolding bytes begins same before textOf allIn fixedOf amountRead isAmount whole dateRead dateFrom momentRead momentFrom wordAt serviceOf serviceIn periodOf hasPeriod reasonIn hasReason behindPeriod kindIn sideIn partyOf tradeOf nobody never nought blankTrade
+blank-is = refl

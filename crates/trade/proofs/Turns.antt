@@ -1,0 +1,134 @@
+-- The mathematics of the crate's functions, over plain lists and numbers: parts of a value, code words by their places, and the
+-- record from its fields.
+-- Assumes nothing.
+use Prim.Native.Nat.{ℕ, zero, suc, _-_, _≤_, _<_}
+use mathlib.Core.Path.{_≡_, refl, sym, ap, _∙_}
+use mathlib.Core.Bool.{Bool, true, false}
+use mathlib.Core.List.{List, [], _∷_}
+use native.Mathlib.Nat.{le-of-lt, le-of-suc-le-suc, zero-lt-suc}
+use native.Mathlib.Omega.{arith}
+use lib.Dec.{leb, ltb}
+use lib.ListN.{length, take, drop, getD, drop-of-length-le, List·getD-eq-default}
+use lib.Seq.{getD-drop, take-all}
+use borrow.Author.Tests.{le-ltb, lt-ltb}
+use Rattle.text.specs.Bytes.{bytes, parts}
+use Rattle.text.specs.Texts.{textOf}
+use Rattle.amount.specs.Amounts.{amountRead}
+use Rattle.calendar.specs.Dates.{dateRead, momentRead}
+use Rattle.forms.specs.Forms.{wordAt, isWord}
+use Rattle.forms.specs.Slots.{wordsOf}
+use Rattle.trade.specs.Narrative.{services, serviceIn, periodIn, reasonIn, serviceOf, periodOf}
+use Rattle.trade.specs.Records.{kindIn, sideIn, amountOr0, dateOr0, momentOr0, partyOf, tradeOf}
+use Rattle.trade.specs.declared.Kind.{Kind}
+use Rattle.trade.specs.declared.Side.{Side}
+use Rattle.trade.specs.declared.Service.{Service}
+use Rattle.trade.specs.declared.Trade.{Trade}
+
+-- ---- parts of a value
+
+pub none-left : (k : ℕ) (s : List ℕ) → length s < k → [] ≡ drop k s
+none-left k s h = sym (drop-of-length-le s (le-of-lt h))
+
+-- a word that is cut short by the end of the value is all that is left
+pub short-word : (v w : List ℕ) → w ≡ drop 5 v → length w < 4 → w ≡ serviceIn v
+unfolding serviceIn
+short-word v w e h = sym (ap (take 4) (sym e) ∙ take-all 4 w (omega arith))
+
+pub whole-word : (v w : List ℕ) → w ≡ drop 5 v → take 4 w ≡ serviceIn v
+unfolding serviceIn
+whole-word v w e = rw e
+
+pub period-at : (v : List ℕ) → getD v 14 0 ≡ periodIn v
+unfolding periodIn
+period-at v = rw getD-drop
+
+pub no-period : (v : List ℕ) → length v < 15 → 0 ≡ periodIn v
+no-period v h = sym (List·getD-eq-default v 0 (omega arith)) ∙ period-at v
+
+-- ---- code words by their places
+
+-- the first of a list answers for 0 and for every place behind the others
+first-else : {T : Type 0} (first : T) (others : List T) (place : ℕ) → (0 < place → length others < place) → first ≡ getD (first ∷ others) place first
+first-else first others zero h = refl
+first-else first others (suc n) h = sym (List·getD-eq-default others first (le-of-suc-le-suc (h (zero-lt-suc n))))
+
+module _ (v : List ℕ) (k : ℕ) (e : k ≡ wordAt (wordsOf (bytes "INSTCANCMDFCTDDK")) v) where
+  pub kind-is : (n : ℕ) → k ≡ n → getD (Kind.Inst ∷ Kind.Canc ∷ Kind.Mdfc ∷ Kind.Tddk ∷ []) n Kind.Inst ≡ kindIn v
+  unfolding kindIn bytes wordsOf parts
+  kind-is n h = rw (← h, e)
+
+  pub kind-else : (k ≡ 1 → ⊥) → (k ≡ 2 → ⊥) → (k ≡ 3 → ⊥) → Kind.Inst ≡ kindIn v
+  kind-else f g h = first-else Kind.Inst (Kind.Canc ∷ Kind.Mdfc ∷ Kind.Tddk ∷ []) k (λ p. omega arith) ∙ kind-is k refl
+
+module _ (v : List ℕ) (k : ℕ) (e : k ≡ wordAt (wordsOf (bytes "BUYISELL")) v) where
+  pub side-is : (n : ℕ) → k ≡ n → getD (Side.Buyi ∷ Side.Sell ∷ []) n Side.Buyi ≡ sideIn v
+  unfolding sideIn bytes wordsOf parts
+  side-is n h = rw (← h, e)
+
+  pub side-else : (k ≡ 1 → ⊥) → Side.Buyi ≡ sideIn v
+  side-else f = first-else Side.Buyi (Side.Sell ∷ []) k (λ p. omega arith) ∙ side-is k refl
+
+module _ (v w : List ℕ) (k : ℕ) (is : w ≡ serviceIn v) (e : k ≡ wordAt (wordsOf (bytes "SBODTFTDSTIP")) w) where
+  pub service-is : (n : ℕ) → k ≡ n → getD (Service.Sbod ∷ Service.Tftd ∷ Service.Stip ∷ []) n Service.Sbod ≡ serviceOf v
+  unfolding serviceOf bytes wordsOf parts
+  service-is n h = rw (← h, e, is)
+
+  pub service-else : (k ≡ 1 → ⊥) → (k ≡ 2 → ⊥) → Service.Sbod ≡ serviceOf v
+  service-else f g = first-else Service.Sbod (Service.Tftd ∷ Service.Stip ∷ []) k (λ p. omega arith) ∙ service-is k refl
+
+  pub service-none : 3 ≤ k → isWord services (serviceIn v) ≡ false
+  unfolding isWord bytes wordsOf parts
+  service-none h = rw (← is, ← e) (le-ltb k 3 h)
+
+  pub service-one : k < 3 → isWord services (serviceIn v) ≡ true
+  unfolding isWord bytes wordsOf parts
+  service-one h = rw (← is, ← e) (lt-ltb k 3 h)
+
+-- ---- the record by its fields
+
+module _ (value : ℕ → List ℕ) (t : Trade) where
+  pub gathered : t .password ≡ textOf (value 28)
+      → t .sender ≡ textOf (value 29)
+      → t .seme ≡ textOf (value 1)
+      → t .prep ≡ momentOr0 (momentRead (value 3))
+      → t .mast ≡ textOf (value 4)
+      → t .prev ≡ textOf (value 5)
+      → t .list ≡ textOf (value 6)
+      → t .trad ≡ momentOr0 (momentRead (value 7))
+      → t .sett ≡ dateOr0 (dateRead (value 8))
+      → t .price .0 ≡ amountOr0 (amountRead (value 9))
+      → t .side ≡ sideIn (value 10)
+      → t .kind ≡ kindIn (value 11)
+      → t .buyer ≡ partyOf (value 12) (value 13) (value 14)
+      → t .seller ≡ partyOf (value 15) (value 16) (value 17)
+      → t .par .0 ≡ amountOr0 (amountRead (value 18))
+      → t .cusip ≡ textOf (value 19)
+      → t .pool ≡ textOf (value 20)
+      → t .service ≡ serviceOf (value 21)
+      → t .period ≡ periodOf (value 21)
+      → t .reason ≡ textOf (reasonIn (value 21))
+      → t ≡ tradeOf value
+  unfolding tradeOf
+  gathered password sender seme prep mast prev list trad sett price side kind buyer seller par cusip pool service period reason =
+      rw (
+        ← password,
+        ← sender,
+        ← seme,
+        ← prep,
+        ← mast,
+        ← prev,
+        ← list,
+        ← trad,
+        ← sett,
+        ← price,
+        ← side,
+        ← kind,
+        ← buyer,
+        ← seller,
+        ← par,
+        ← cusip,
+        ← pool,
+        ← service,
+        ← period,
+        ← reason,
+      )

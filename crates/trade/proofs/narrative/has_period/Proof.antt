@@ -1,0 +1,24 @@
+-- `trade::narrative::has_period` meets its contract. Assumes nothing.
+use mathlib.Core.Path.{_∙_}
+use Rattle.text.specs.Bytes.{bytes}
+use Rattle.trade.specs.Narrative.{hasPeriod}
+use borrow.Author.Needs.{needs}
+use Rattle.trade.proofs.narrative.has_period.Statement.{statement}
+use Rattle.trade.proofs.narrative.has_period.Tie as tie
+
+from-requires : tie.Need-from-requires
+from-requires c κs = search needs
+
+slice-aggregate-begins-with : tie.Need-slice-aggregate-begins-with
+slice-aggregate-begins-with c = search needs
+
+begins-with-requires : tie.Need-begins-with-requires
+begins-with-requires c κs = search needs
+
+returns : tie.Need-returns
+unfolding hasPeriod bytes
+returns c = c .begins-with .ensures ∙ rw (c .before .before .from .ensures)
+
+pub has-period-spec : {M : Type 1} → statement M
+has-period-spec =
+    tie.close (tie.spec from-requires slice-aggregate-begins-with begins-with-requires returns)

@@ -1,0 +1,35 @@
+-- `trade::party_at` meets its contract. Assumes nothing.
+use Rattle.trade.specs.Records.{partyOf}
+use borrow.Author.Needs.{needs}
+use Rattle.trade.proofs.party_at.Statement.{statement}
+use Rattle.trade.proofs.party_at.Tie as tie
+
+text-at-requires : tie.Need-text-at-requires
+text-at-requires c κs = search needs
+
+add-text-at : tie.Need-add-text-at
+add-text-at c = search needs
+
+text-at-requires-2 : tie.Need-text-at-requires-2
+text-at-requires-2 c κs = search needs
+
+add-text-at-2 : tie.Need-add-text-at-2
+add-text-at-2 c = search needs
+
+text-at-requires-3 : tie.Need-text-at-requires-3
+text-at-requires-3 c κs = search needs
+
+returns : tie.Need-returns
+unfolding partyOf
+returns c = rw (c .before .before .text-at .ensures, c .before .text-at2 .ensures, c .text-at3 .ensures)
+
+pub party-at-spec : {M : Type 1} → statement M
+party-at-spec =
+    tie.close
+    (tie.spec
+    text-at-requires
+    add-text-at
+    text-at-requires-2
+    add-text-at-2
+    text-at-requires-3
+    returns)

@@ -1,0 +1,4 @@
+pub mod Narrative
+pub mod Stretches
+pub mod Records
+pub mod Cases

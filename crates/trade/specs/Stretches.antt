@@ -1,0 +1,13 @@
+-- The values of a message's slots as stretches of its text: of each slot where its value begins and ends.
+use Prim.Native.Nat.{ℕ, _-_}
+use mathlib.Core.Bool.{_&&_, cond}
+use mathlib.Core.List.{List, []}
+use lib.Dec.{leb}
+use lib.ListN.{length, take, drop, getD}
+
+-- from one place to another of a text; nothing where they do not stand in it in that order
+unfoldable pub between : List ℕ → ℕ → ℕ → List ℕ
+between m from to = cond (leb from to && leb to (length m)) (take (to - from) (drop from m)) []
+
+unfoldable pub stretchOf : List ℕ → List ℕ → List ℕ → ℕ → List ℕ
+stretchOf m starts ends slot = between m (getD starts slot 0) (getD ends slot 0)

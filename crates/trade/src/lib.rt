@@ -1,0 +1,243 @@
+// A trade as it is held: the record, and how it is had from the values of a message's slots.
+//
+// What is right stands in specs/Narrative, specs/Stretches and specs/Records.
+pub mod narrative;
+mod words;
+
+use amount::Amount;
+use amount::AmountRead;
+use amount::Par;
+use amount::Price;
+use calendar::Date;
+use calendar::DateRead;
+use calendar::Moment;
+use calendar::MomentRead;
+use calendar::Time;
+use text::Text;
+ghost use mathlib.Core.Path.{_≡_};
+ghost use Prim.Native.Nat.{_+_, _<_};
+ghost use lib.ListN.{getD};
+ghost use Rattle.text.specs.Texts.{textOf};
+ghost use Rattle.amount.specs.Amounts.{amountRead};
+ghost use Rattle.calendar.specs.Dates.{dateRead, momentRead};
+ghost use Rattle.trade.specs.Stretches.{between, stretchOf};
+ghost use Rattle.trade.specs.Records.{amountOr0, dateOr0, momentOr0, partyOf, tradeOf, blankTrade};
+
+// The kinds of an MT515.
+pub enum Kind {
+    Inst,
+    Canc,
+    Mdfc,
+    Tddk,
+}
+
+// Whether the sender buys or sells.
+pub enum Side {
+    Buyi,
+    Sell,
+}
+
+// The service of the trade.
+pub enum Service {
+    Sbod,
+    Tftd,
+    Stip,
+}
+
+// The give-up period; 0 days is a period.
+pub enum Period {
+    Absent,
+    Days(u64),
+}
+
+// A party: its member code, the contra reference and the trader's identifier.
+pub struct Party {
+    pub code: Text,
+    pub reference: Text,
+    pub trader: Text,
+}
+
+pub struct Trade {
+    pub password: Text,
+    pub sender: Text,
+    pub seme: Text,
+    pub prep: Moment,
+    pub mast: Text,
+    pub prev: Text,
+    pub list: Text,
+    pub trad: Moment,
+    pub sett: Date,
+    pub price: Price,
+    pub side: Side,
+    pub kind: Kind,
+    pub buyer: Party,
+    pub seller: Party,
+    pub par: Par,
+    pub cusip: Text,
+    pub pool: Text,
+    pub service: Service,
+    pub period: Period,
+    pub reason: Text,
+}
+
+// The record that stands beside a refusal.
+pub fn blank() -> Trade
+    ensures { λ r. ⌜ r ≡ blankTrade ⌝ }
+{
+    let nobody = Party {
+        code: Text::BLANK,
+        reference: Text::BLANK,
+        trader: Text::BLANK,
+    };
+    Trade {
+        password: Text::BLANK,
+        sender: Text::BLANK,
+        seme: Text::BLANK,
+        prep: Moment {
+            date: Date(0),
+            time: Time(0),
+        },
+        mast: Text::BLANK,
+        prev: Text::BLANK,
+        list: Text::BLANK,
+        trad: Moment {
+            date: Date(0),
+            time: Time(0),
+        },
+        sett: Date(0),
+        price: Price::ZERO,
+        side: Side::Buyi,
+        kind: Kind::Inst,
+        buyer: nobody,
+        seller: nobody,
+        par: Par::ZERO,
+        cusip: Text::BLANK,
+        pool: Text::BLANK,
+        service: Service::Sbod,
+        period: Period::Absent,
+        reason: Text::BLANK,
+    }
+}
+
+// From one place to another of a text; nothing where they do not stand in it in that order.
+pub fn part(message: &[u8], from: usize, to: usize) -> &[u8]
+    ensures { λ r. ⌜ now r ≡ between (now (message .entry)) from to ⌝ }
+{
+    if to < from {
+        return &message[..0];
+    }
+    if message.len() < to {
+        return &message[..0];
+    }
+    &message[from..to]
+}
+
+fn at(places: &[usize], slot: usize) -> usize
+    ensures { λ r. ⌜ r ≡ getD (now (places .entry)) slot 0 ⌝ }
+{
+    if slot < places.len() { places[slot] } else { 0 }
+}
+
+// The value of a slot as a stretch of the message.
+pub fn stretch<'a, 'b>(
+    message: &'a [u8],
+    starts: &'b [usize],
+    ends: &'b [usize],
+    slot: usize,
+) -> &'a [u8]
+    ensures { λ r. ⌜ now r ≡ stretchOf (now (message .entry)) (now (starts .entry)) (now (ends .entry)) slot ⌝ }
+{
+    part(message, at(starts, slot), at(ends, slot))
+}
+
+fn text_at<'a, 'b>(message: &'a [u8], starts: &'b [usize], ends: &'b [usize], slot: usize) -> Text
+    ensures { λ r. ⌜ r ≡ textOf (stretchOf (now (message .entry)) (now (starts .entry)) (now (ends .entry)) slot) ⌝ }
+{
+    Text::of(stretch(message, starts, ends, slot))
+}
+
+fn moment_at<'a, 'b>(
+    message: &'a [u8],
+    starts: &'b [usize],
+    ends: &'b [usize],
+    slot: usize,
+) -> Moment
+    ensures { λ r. ⌜ r ≡ momentOr0 (momentRead (stretchOf (now (message .entry)) (now (starts .entry)) (now (ends .entry)) slot)) ⌝ }
+{
+    match Moment::read(stretch(message, starts, ends, slot)) {
+        MomentRead::Good(moment) => moment,
+        MomentRead::Wrong => Moment {
+            date: Date(0),
+            time: Time(0),
+        },
+    }
+}
+
+fn date_at<'a, 'b>(message: &'a [u8], starts: &'b [usize], ends: &'b [usize], slot: usize) -> Date
+    ensures { λ r. ⌜ r ≡ dateOr0 (dateRead (stretchOf (now (message .entry)) (now (starts .entry)) (now (ends .entry)) slot)) ⌝ }
+{
+    match Date::read(stretch(message, starts, ends, slot)) {
+        DateRead::Good(date) => date,
+        DateRead::Wrong => Date(0),
+    }
+}
+
+fn amount_at<'a, 'b>(
+    message: &'a [u8],
+    starts: &'b [usize],
+    ends: &'b [usize],
+    slot: usize,
+) -> Amount
+    ensures { λ r. ⌜ r ≡ amountOr0 (amountRead (stretchOf (now (message .entry)) (now (starts .entry)) (now (ends .entry)) slot)) ⌝ }
+{
+    match Amount::read(stretch(message, starts, ends, slot)) {
+        AmountRead::Good(amount) => amount,
+        AmountRead::Wrong => Amount::ZERO,
+    }
+}
+
+// The party whose three slots begin at `first`.
+fn party_at<'a, 'b>(
+    message: &'a [u8],
+    starts: &'b [usize],
+    ends: &'b [usize],
+    first: usize,
+) -> Party
+    requires { ⌜ first < 30 ⌝ }
+    ensures { λ r. ⌜ r ≡ partyOf (stretchOf (now (message .entry)) (now (starts .entry)) (now (ends .entry)) first) (stretchOf (now (message .entry)) (now (starts .entry)) (now (ends .entry)) (first + 1)) (stretchOf (now (message .entry)) (now (starts .entry)) (now (ends .entry)) (first + 2)) ⌝ }
+{
+    Party {
+        code: text_at(message, starts, ends, first),
+        reference: text_at(message, starts, ends, first + 1),
+        trader: text_at(message, starts, ends, first + 2),
+    }
+}
+
+// The record of a message, from where the value of each slot begins and ends.
+pub fn gather<'a, 'b>(message: &'a [u8], starts: &'b [usize], ends: &'b [usize]) -> Trade
+    ensures { λ r. ⌜ r ≡ tradeOf (stretchOf (now (message .entry)) (now (starts .entry)) (now (ends .entry))) ⌝ }
+{
+    let narrative = stretch(message, starts, ends, 21);
+    Trade {
+        password: text_at(message, starts, ends, 28),
+        sender: text_at(message, starts, ends, 29),
+        seme: text_at(message, starts, ends, 1),
+        prep: moment_at(message, starts, ends, 3),
+        mast: text_at(message, starts, ends, 4),
+        prev: text_at(message, starts, ends, 5),
+        list: text_at(message, starts, ends, 6),
+        trad: moment_at(message, starts, ends, 7),
+        sett: date_at(message, starts, ends, 8),
+        price: Price::of(amount_at(message, starts, ends, 9)),
+        side: words::side_in(stretch(message, starts, ends, 10)),
+        kind: words::kind_in(stretch(message, starts, ends, 11)),
+        buyer: party_at(message, starts, ends, 12),
+        seller: party_at(message, starts, ends, 15),
+        par: Par::of(amount_at(message, starts, ends, 18)),
+        cusip: text_at(message, starts, ends, 19),
+        pool: text_at(message, starts, ends, 20),
+        service: narrative::service_of(narrative),
+        period: narrative::period_of(narrative),
+        reason: Text::of(narrative::reason_in(narrative)),
+    }
+}
