@@ -5,13 +5,13 @@ use Prim.Native.Nat.{ℕ, suc, _+_, _-_, _≤_, _<_, min}
 use mathlib.Core.Path.{_≡_, refl, sym, ap, _∙_}
 use mathlib.Core.Bool.{Bool, true, false, _&&_, not, cond}
 use mathlib.Core.List.{List, [], _∷_, _++_}
-use native.Mathlib.Nat.{not-suc-le-zero}
+use native.Mathlib.Nat.{not-suc-le-zero, add-zero}
 use native.Mathlib.Numerals.{add-one}
 use native.Mathlib.Omega.{arith}
-use lib.Dec.{leb, eqb}
+use lib.Dec.{leb, ltb, eqb}
 use lib.ListN.{length, take, drop, length-take, length-drop, drop-of-length-le}
 use lib.Seq.{take-take, drop-drop, drop-length}
-use borrow.Author.Tests.{leb-true, leb-false, eq-eqb, ne-eqb, eqb-true}
+use borrow.Author.Tests.{ltb-true, ltb-false, leb-true, leb-false, eq-eqb, ne-eqb, eqb-true}
 use Rattle.text.specs.Bytes.{bytes, same, before}
 use Rattle.text.proofs.Laws.{and-left, and-right, before-front, before-length, same-eq}
 use Rattle.lines.specs.Verdicts.{refused, pass, then}
@@ -127,6 +127,21 @@ located m at r e h =
 -- behind the end there are no lines
 pub lines-behind : (m : List ℕ) (at : ℕ) → length m ≤ at → linesOf (drop at m) ≡ []
 lines-behind m at h = ap linesOf (drop-of-length-le m h) ∙ lines-none
+
+next-behind : (m : List ℕ) (at : ℕ) → length m ≤ at → lineAt m at .next ≡ at
+unfolding lineAt before
+next-behind m at h = rw (drop-of-length-le m h, add-zero)
+
+-- at every place, the end too, the next line's place has the lines but the first
+pub lines-next : (m : List ℕ) (at : ℕ) (r : Line) → r ≡ lineAt m at → at ≤ length m → (r .next ≤ length m) × (linesOf (drop (r .next) m) ≡ drop 1 (linesOf (drop at m)))
+lines-next m at r e h = on (ltb at (length m)) refl
+  where
+    on : (t : Bool) → ltb at (length m) ≡ t → (r .next ≤ length m) × (linesOf (drop (r .next) m) ≡ drop 1 (linesOf (drop at m)))
+    on true t = let l = located m at r e (ltb-true _ _ t) in (l .within, rw (l .go-on))
+    on false t =
+        let b : length m ≤ at = ltb-false _ _ t in
+        let n : r .next ≡ at = ap (λ (x : Line). x .next) e ∙ next-behind m at b in
+        (rw n h, rw (n, lines-behind m at b))
 
 -- ---- a message that has passed
 
