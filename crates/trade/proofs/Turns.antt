@@ -1,19 +1,19 @@
 -- The mathematics of the crate's functions, over plain lists and numbers: parts of a value, code words by their places, and the
 -- record from its fields.
 -- Assumes nothing.
-use Prim.Native.Nat.{ℕ, zero, suc, _-_, _≤_, _<_}
+use Prim.Native.Nat.{ℕ, zero, suc, _≤_, _<_}
 use mathlib.Core.Path.{_≡_, refl, sym, ap, _∙_}
-use mathlib.Core.Bool.{Bool, true, false}
+use mathlib.Core.Bool.{true, false}
 use mathlib.Core.List.{List, [], _∷_}
 use native.Mathlib.Nat.{le-of-lt, le-of-suc-le-suc, zero-lt-suc}
 use native.Mathlib.Omega.{arith}
-use lib.Dec.{leb, ltb}
 use lib.ListN.{length, take, drop, getD, drop-of-length-le, List·getD-eq-default}
 use lib.Seq.{getD-drop, take-all}
 use borrow.Author.Tests.{le-ltb, lt-ltb}
 use Rattle.text.specs.Bytes.{bytes, parts}
 use Rattle.text.specs.Texts.{textOf}
 use Rattle.amount.specs.Amounts.{amountRead}
+use Rattle.amount.specs.declared.Amount.{Amount}
 use Rattle.calendar.specs.Dates.{dateRead, momentRead}
 use Rattle.forms.specs.Forms.{wordAt, isWord}
 use Rattle.forms.specs.Slots.{wordsOf}
@@ -86,7 +86,7 @@ module _ (v w : List ℕ) (k : ℕ) (is : w ≡ serviceIn v) (e : k ≡ wordAt (
 
 -- ---- the record by its fields
 
-module _ (value : ℕ → List ℕ) (t : Trade) where
+module _ (value : ℕ → List ℕ) (t : Trade) {price par : Amount} {side kind narrative reason : List ℕ} where
   pub gathered : t .password ≡ textOf (value 28)
       → t .sender ≡ textOf (value 29)
       → t .seme ≡ textOf (value 1)
@@ -96,39 +96,51 @@ module _ (value : ℕ → List ℕ) (t : Trade) where
       → t .list ≡ textOf (value 6)
       → t .trad ≡ momentOr0 (momentRead (value 7))
       → t .sett ≡ dateOr0 (dateRead (value 8))
-      → t .price .0 ≡ amountOr0 (amountRead (value 9))
-      → t .side ≡ sideIn (value 10)
-      → t .kind ≡ kindIn (value 11)
+      → price ≡ amountOr0 (amountRead (value 9))
+      → t .price .0 ≡ price
+      → side ≡ value 10
+      → t .side ≡ sideIn side
+      → kind ≡ value 11
+      → t .kind ≡ kindIn kind
       → t .buyer ≡ partyOf (value 12) (value 13) (value 14)
       → t .seller ≡ partyOf (value 15) (value 16) (value 17)
-      → t .par .0 ≡ amountOr0 (amountRead (value 18))
+      → par ≡ amountOr0 (amountRead (value 18))
+      → t .par .0 ≡ par
       → t .cusip ≡ textOf (value 19)
       → t .pool ≡ textOf (value 20)
-      → t .service ≡ serviceOf (value 21)
-      → t .period ≡ periodOf (value 21)
-      → t .reason ≡ textOf (reasonIn (value 21))
+      → narrative ≡ value 21
+      → t .service ≡ serviceOf narrative
+      → t .period ≡ periodOf narrative
+      → reason ≡ reasonIn narrative
+      → t .reason ≡ textOf reason
       → t ≡ tradeOf value
   unfolding tradeOf
-  gathered password sender seme prep mast prev list trad sett price side kind buyer seller par cusip pool service period reason =
+  gathered e28 e29 e1 e3 e4 e5 e6 e7 e8 e9 e9′ e10 e10′ e11 e11′ e12 e15 e18 e18′ e19 e20 e21 service period e21′ told =
       rw (
-        ← password,
-        ← sender,
-        ← seme,
-        ← prep,
-        ← mast,
-        ← prev,
-        ← list,
-        ← trad,
-        ← sett,
-        ← price,
-        ← side,
-        ← kind,
-        ← buyer,
-        ← seller,
-        ← par,
-        ← cusip,
-        ← pool,
+        ← e28,
+        ← e29,
+        ← e1,
+        ← e3,
+        ← e4,
+        ← e5,
+        ← e6,
+        ← e7,
+        ← e8,
+        ← e9,
+        ← e9′,
+        ← e10,
+        ← e10′,
+        ← e11,
+        ← e11′,
+        ← e12,
+        ← e15,
+        ← e18,
+        ← e18′,
+        ← e19,
+        ← e20,
+        ← e21,
         ← service,
         ← period,
-        ← reason,
+        ← e21′,
+        ← told,
       )

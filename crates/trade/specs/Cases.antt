@@ -1,6 +1,5 @@
 -- Document 01, the value of 70E: what is a narrative and what is none, in one table, and the period that a narrative means.
 -- GUPP 0 is present.
-use Prim.Native.Nat.{ℕ}
 use Prim.Native.String.{String}
 use mathlib.Core.Path.{_≡_}
 use mathlib.Core.Bool.{Bool, true, false}

@@ -15,7 +15,6 @@ use calendar::MomentRead;
 use calendar::Time;
 use text::Text;
 ghost use mathlib.Core.Path.{_≡_};
-ghost use Prim.Native.Nat.{_+_, _<_};
 ghost use lib.ListN.{getD};
 ghost use Rattle.text.specs.Texts.{textOf};
 ghost use Rattle.amount.specs.Amounts.{amountRead};
@@ -196,20 +195,21 @@ fn amount_at<'a, 'b>(
     }
 }
 
-// The party whose three slots begin at `first`.
+// A party, from its three slots.
 fn party_at<'a, 'b>(
     message: &'a [u8],
     starts: &'b [usize],
     ends: &'b [usize],
-    first: usize,
+    code: usize,
+    reference: usize,
+    trader: usize,
 ) -> Party
-    requires { ⌜ first < 30 ⌝ }
-    ensures { λ r. ⌜ r ≡ partyOf (stretchOf (now (message .entry)) (now (starts .entry)) (now (ends .entry)) first) (stretchOf (now (message .entry)) (now (starts .entry)) (now (ends .entry)) (first + 1)) (stretchOf (now (message .entry)) (now (starts .entry)) (now (ends .entry)) (first + 2)) ⌝ }
+    ensures { λ r. ⌜ r ≡ partyOf (stretchOf (now (message .entry)) (now (starts .entry)) (now (ends .entry)) code) (stretchOf (now (message .entry)) (now (starts .entry)) (now (ends .entry)) reference) (stretchOf (now (message .entry)) (now (starts .entry)) (now (ends .entry)) trader) ⌝ }
 {
     Party {
-        code: text_at(message, starts, ends, first),
-        reference: text_at(message, starts, ends, first + 1),
-        trader: text_at(message, starts, ends, first + 2),
+        code: text_at(message, starts, ends, code),
+        reference: text_at(message, starts, ends, reference),
+        trader: text_at(message, starts, ends, trader),
     }
 }
 
@@ -231,8 +231,8 @@ pub fn gather<'a, 'b>(message: &'a [u8], starts: &'b [usize], ends: &'b [usize])
         price: Price::of(amount_at(message, starts, ends, 9)),
         side: words::side_in(stretch(message, starts, ends, 10)),
         kind: words::kind_in(stretch(message, starts, ends, 11)),
-        buyer: party_at(message, starts, ends, 12),
-        seller: party_at(message, starts, ends, 15),
+        buyer: party_at(message, starts, ends, 12, 13, 14),
+        seller: party_at(message, starts, ends, 15, 16, 17),
         par: Par::of(amount_at(message, starts, ends, 18)),
         cusip: text_at(message, starts, ends, 19),
         pool: text_at(message, starts, ends, 20),

@@ -3,7 +3,7 @@ use super::Period;
 use super::Service;
 use text::Class;
 ghost use mathlib.Core.Path.{_≡_};
-ghost use lib.ListN.{take, drop, getD};
+ghost use lib.ListN.{drop};
 ghost use Rattle.trade.specs.Narrative.{serviceIn, hasPeriod, periodIn, behindPeriod, hasReason, reasonIn, goodPeriod, goodReason, isNarrative, serviceOf, periodOf};
 
 const SERVICES: [u8; 12] = *b"SBODTFTDSTIP";

@@ -1,8 +1,4 @@
 -- `trade::gather` meets its contract: each field is what its function ensures. Assumes nothing.
-use mathlib.Core.Path.{ap, _∙_}
-use Rattle.text.specs.Texts.{textOf}
-use Rattle.trade.specs.Narrative.{serviceOf, periodOf, reasonIn}
-use Rattle.trade.specs.Records.{sideIn, kindIn}
 use Rattle.trade.proofs.Turns.{gathered}
 use borrow.Author.Needs.{needs}
 use Rattle.trade.proofs.gather.Statement.{statement}
@@ -91,24 +87,29 @@ of-requires-3 c κs = search needs
 
 returns : tie.Need-returns
 returns c =
-    let narrative = c .before .before .before .before .before .before .before .before .before .before .before .before .before .before .before .before .before .before .before .before .before .before .before .before .before .stretch .ensures in
     gathered _ _ (c .before .before .before .before .before .before .before .before .before .before .before .before .before .before .before .before .before .before .before .before .before .before .before .before .text-at .ensures) (c .before .before .before .before .before .before .before .before .before .before .before .before .before .before .before .before .before .before .before .before .before .before .before .text-at2 .ensures) (c .before .before .before .before .before .before .before .before .before .before .before .before .before .before .before .before .before .before .before .before .before .before .text-at3 .ensures) (c .before .before .before .before .before .before .before .before .before .before .before .before .before .before .before .before .before .before .before .before .before .moment-at .ensures)
     (c .before .before .before .before .before .before .before .before .before .before .before .before .before .before .before .before .before .before .before .before .text-at4 .ensures)
     (c .before .before .before .before .before .before .before .before .before .before .before .before .before .before .before .before .before .before .before .text-at5 .ensures)
     (c .before .before .before .before .before .before .before .before .before .before .before .before .before .before .before .before .before .before .text-at6 .ensures)
     (c .before .before .before .before .before .before .before .before .before .before .before .before .before .before .before .before .before .moment-at2 .ensures)
     (c .before .before .before .before .before .before .before .before .before .before .before .before .before .before .before .before .date-at .ensures)
-    (c .before .before .before .before .before .before .before .before .before .before .before .before .before .before .of .ensures ∙ c .before .before .before .before .before .before .before .before .before .before .before .before .before .before .before .amount-at .ensures)
-    (c .before .before .before .before .before .before .before .before .before .before .before .before .side-in .ensures ∙ ap sideIn (c .before .before .before .before .before .before .before .before .before .before .before .before .before .stretch2 .ensures))
-    (c .before .before .before .before .before .before .before .before .before .before .kind-in .ensures ∙ ap kindIn (c .before .before .before .before .before .before .before .before .before .before .before .stretch3 .ensures))
+    (c .before .before .before .before .before .before .before .before .before .before .before .before .before .before .before .amount-at .ensures)
+    (c .before .before .before .before .before .before .before .before .before .before .before .before .before .before .of .ensures)
+    (c .before .before .before .before .before .before .before .before .before .before .before .before .before .stretch2 .ensures)
+    (c .before .before .before .before .before .before .before .before .before .before .before .before .side-in .ensures)
+    (c .before .before .before .before .before .before .before .before .before .before .before .stretch3 .ensures)
+    (c .before .before .before .before .before .before .before .before .before .before .kind-in .ensures)
     (c .before .before .before .before .before .before .before .before .before .party-at .ensures)
     (c .before .before .before .before .before .before .before .before .party-at2 .ensures)
-    (c .before .before .before .before .before .before .of2 .ensures ∙ c .before .before .before .before .before .before .before .amount-at2 .ensures)
+    (c .before .before .before .before .before .before .before .amount-at2 .ensures)
+    (c .before .before .before .before .before .before .of2 .ensures)
     (c .before .before .before .before .before .text-at7 .ensures)
     (c .before .before .before .before .text-at8 .ensures)
-    (c .before .before .before .service-of .ensures ∙ ap serviceOf narrative)
-    (c .before .before .period-of .ensures ∙ ap periodOf narrative)
-    (c .of3 .ensures ∙ ap textOf (c .before .reason-in .ensures ∙ ap reasonIn narrative))
+    (c .before .before .before .before .before .before .before .before .before .before .before .before .before .before .before .before .before .before .before .before .before .before .before .before .before .stretch .ensures)
+    (c .before .before .before .service-of .ensures)
+    (c .before .before .period-of .ensures)
+    (c .before .reason-in .ensures)
+    (c .of3 .ensures)
 
 pub gather-spec : {M : Type 1} → statement M
 gather-spec =

@@ -7,14 +7,8 @@ use Rattle.trade.proofs.party_at.Tie as tie
 text-at-requires : tie.Need-text-at-requires
 text-at-requires c κs = search needs
 
-add-text-at : tie.Need-add-text-at
-add-text-at c = search needs
-
 text-at-requires-2 : tie.Need-text-at-requires-2
 text-at-requires-2 c κs = search needs
-
-add-text-at-2 : tie.Need-add-text-at-2
-add-text-at-2 c = search needs
 
 text-at-requires-3 : tie.Need-text-at-requires-3
 text-at-requires-3 c κs = search needs
@@ -28,8 +22,6 @@ party-at-spec =
     tie.close
     (tie.spec
     text-at-requires
-    add-text-at
     text-at-requires-2
-    add-text-at-2
     text-at-requires-3
     returns)

@@ -1,5 +1,4 @@
 -- `trade::narrative::good_period` meets its contract. Assumes nothing.
-use mathlib.Core.Path.{_∙_}
 use Rattle.text.specs.Classes.{inClass}
 use Rattle.trade.specs.Narrative.{goodPeriod}
 use borrow.Author.Needs.{needs}

@@ -1,6 +1,6 @@
 -- `trade::narrative::period_of` meets its contract: a period of 0 days is a period. Assumes nothing.
 use mathlib.Core.Path.{_≡_, sym, _∙_}
-use Prim.Native.Nat.{ℕ, _-_}
+use Prim.Native.Nat.{_-_}
 use native.Mathlib.Omega.{arith}
 use borrow.Author.Tests.{not-true, not-false}
 use Rattle.trade.specs.Narrative.{periodOf}
