@@ -1,0 +1,120 @@
+-- The mathematics of the header, over plain lists: four lines one behind the other, wherever the message ends.
+-- Assumes nothing.
+use Prim.Native.Nat.{ℕ, zero, suc, _+_, _-_, _≤_, _<_}
+use mathlib.Core.Path.{_≡_, refl, sym, ap, _∙_}
+use mathlib.Core.Bool.{Bool, true, false, _&&_, cond}
+use mathlib.Core.List.{List, [], _∷_}
+use native.Mathlib.Nat.{add-zero, sub-zero}
+use native.Mathlib.Omega.{arith}
+use lib.Dec.{leb, ltb}
+use lib.ListN.{length, take, drop, getD, drop-of-length-le}
+use lib.Seq.{take-nil, drop-drop, getD-drop}
+use borrow.Author.Tests.{le-leb, ltb-true, ltb-false}
+use Rattle.text.specs.Bytes.{bytes, same, before}
+use Rattle.lines.specs.Verdicts.{refused, pass}
+use Rattle.lines.specs.Lines.{bare, linesOf, lineAt}
+use Rattle.lines.specs.declared.Line.{Line}
+use Rattle.lines.proofs.Laws.{Located, located, lines-next, lines-none}
+use Rattle.forms.specs.Forms.{isCode}
+use Rattle.trade.specs.Stretches.{between}
+use Rattle.mt515.specs.Body.{lineOf, headerVerdict, headerPass}
+
+-- a stretch within the message
+pub between-is : (m : List ℕ) (from to : ℕ) → from ≤ to → to ≤ length m → between m from to ≡ take (to - from) (drop from m)
+unfolding between
+between-is m from to h g = rw (le-leb from to h, le-leb to (length m) g)
+
+-- the k-th line of a message, from the place where it begins
+pub record Lined (m : List ℕ) (k at : ℕ) (r : Line) : Type 0 where
+  pub starts : at ≤ r .end
+  pub stops : r .end ≤ length m
+  pub within : r .next ≤ length m
+  pub here : take (r .end - at) (drop at m) ≡ lineOf m k
+  pub rest : linesOf (drop (r .next) m) ≡ drop (k + 1) (linesOf m)
+
+end-here : (m : List ℕ) (at : ℕ) → length m ≤ at → lineAt m at .end ≡ at
+unfolding lineAt before bare
+end-here m at h = rw (drop-of-length-le m h) (add-zero at)
+
+pub lined : (m : List ℕ) (k at : ℕ) (r : Line) → r ≡ lineAt m at → at ≤ length m → linesOf (drop at m) ≡ drop k (linesOf m) → Lined m k at r
+unfolding lineOf
+lined m k at r e h l = go (ltb at (length m)) refl
+  where
+    n : (r .next ≤ length m) × (linesOf (drop (r .next) m) ≡ drop 1 (linesOf (drop at m)))
+    n = lines-next m at r e h
+
+    rest : linesOf (drop (r .next) m) ≡ drop (k + 1) (linesOf m)
+    rest = n .1 ∙ ap (drop 1) l ∙ drop-drop 1 k (linesOf m)
+
+    first : getD (linesOf (drop at m)) 0 [] ≡ getD (linesOf m) k []
+    first = ap (λ (ls : List (List ℕ)). getD ls 0 []) l ∙ getD-drop k (linesOf m) 0 [] ∙ ap (λ (i : ℕ). getD (linesOf m) i []) (add-zero k)
+
+    go : (b : Bool) → ltb at (length m) ≡ b → Lined m k at r
+    go true t =
+        let p = located m at r e (ltb-true at (length m) t) in
+        record {
+          starts = p .starts;
+          stops = let a = p .ends in let b = p .within in omega arith;
+          within = n .0;
+          here = sym (ap (λ (ls : List (List ℕ)). getD ls 0 []) (p .go-on)) ∙ first;
+          rest = rest;
+        }
+    go false t =
+        let g : length m ≤ at = ltb-false at (length m) t in
+        let end : r .end ≡ at = ap (λ (x : Line). x .end) e ∙ end-here m at g in
+        let none : drop at m ≡ [] = drop-of-length-le m g in
+        record {
+          starts = omega arith;
+          stops = omega arith;
+          within = n .0;
+          here = ap (take (r .end - at)) none ∙ take-nil (r .end - at) ∙ sym (ap (λ (ls : List (List ℕ)). getD ls 0 []) (ap linesOf none ∙ lines-none)) ∙ first;
+          rest = rest;
+        }
+
+-- four lines, one behind the other
+module _ (m : List ℕ) (a b c d : Line) (ea : a ≡ lineAt m 0) (eb : b ≡ lineAt m (a .next)) (ec : c ≡ lineAt m (b .next)) (ed : d ≡ lineAt m (c .next)) where
+  pub one : Lined m 0 0 a
+  one = lined m 0 0 a ea (omega arith) refl
+
+  pub two : Lined m 1 (a .next) b
+  two = lined m 1 (a .next) b eb (one .within) (one .rest)
+
+  pub three : Lined m 2 (b .next) c
+  three = lined m 2 (b .next) c ec (two .within) (two .rest)
+
+  pub four : Lined m 3 (c .next) d
+  four = lined m 3 (c .next) d ed (three .within) (three .rest)
+
+-- ---- the first of the four lines that is wrong
+
+module _ (a b c d : List ℕ) where
+  pub wrong-1 : isCode 0 12 a ≡ false → refused 4 1 ≡ headerVerdict a b c d
+  unfolding headerVerdict
+  wrong-1 p = rw p
+
+  module _ (p : isCode 0 12 a ≡ true) where
+    pub wrong-2 : isCode 1 8 b ≡ false → refused 4 2 ≡ headerVerdict a b c d
+    unfolding headerVerdict
+    wrong-2 q = rw (p, q)
+
+    module _ (q : isCode 1 8 b ≡ true) where
+      pub wrong-3 : same (bytes "515/000/GSCC") c ≡ false → refused 4 3 ≡ headerVerdict a b c d
+      unfolding headerVerdict
+      wrong-3 r = rw (p, q, r)
+
+      module _ (r : same (bytes "515/000/GSCC") c ≡ true) where
+        pub wrong-4 : same (bytes "MBSCTRRS") d ≡ false → refused 4 4 ≡ headerVerdict a b c d
+        unfolding headerVerdict
+        wrong-4 t = rw (p, q, r, t)
+
+        pub right : same (bytes "MBSCTRRS") d ≡ true → pass ≡ headerVerdict a b c d
+        unfolding headerVerdict
+        right t = rw (p, q, r, t)
+
+pub four-judged : (m a b c d : List ℕ) → a ≡ lineOf m 0 → b ≡ lineOf m 1 → c ≡ lineOf m 2 → d ≡ lineOf m 3 → headerVerdict a b c d ≡ headerPass m
+unfolding headerPass
+four-judged m a b c d p q r t = rw (p, q, r, t)
+
+-- the first line from the message's start
+pub from-start : (m l : List ℕ) (e : ℕ) → take (e - 0) m ≡ l → take e m ≡ l
+from-start m l e h = rw sub-zero at h

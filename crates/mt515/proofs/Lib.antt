@@ -1,0 +1,5 @@
+pub mod Tables
+pub mod Heads
+pub mod Steps
+pub mod Chain
+pub mod Cases

@@ -1,0 +1,73 @@
+-- The bytes of the slots are those of specs/Table: one test over all of them, and one law that gives it at each slot. And the
+-- number of a value by its slot.
+-- Assumes nothing.
+use Prim.Native.Nat.{ℕ, zero, suc, _+_, _-_, _*_, _/_, _%_, _≤_, _<_}
+use mathlib.Core.Path.{_≡_, refl, sym, ap, _∙_}
+use mathlib.Core.Bool.{Bool, true, false, _&&_, cond, and-false}
+use mathlib.Core.List.{List, [], _∷_}
+use native.Mathlib.Nat.{add-zero, zero-add, add-suc, suc-add, not-suc-le-zero, le-of-suc-le-suc}
+use native.Mathlib.Omega.{arith}
+use lib.Dec.{leb, ltb, eqb}
+use lib.ListN.{length, take, drop, getD, length-take, List·getD-eq-default}
+use borrow.Author.Tests.{eq-eqb, ne-eqb, ltb-true, ltb-false}
+use Rattle.text.specs.Bytes.{bytes, begins}
+use Rattle.text.proofs.Laws.{rest-of}
+use Rattle.forms.specs.Forms.{Form, Slot, other, unless, valueNumber}
+use Rattle.forms.specs.Slots.{formOf, slotAt}
+use Rattle.forms.proofs.Turns.{slot-none}
+use Rattle.trade.specs.Narrative.{isNarrative}
+use Rattle.mt515.specs.Table.{slots, slotOf, slot, fixedOf}
+use Rattle.mt515.specs.Values.{numberOf}
+
+-- the slots of some bytes, from the k-th on
+abbrev pub places : List ℕ → ℕ → ℕ → List Slot
+places t k zero = []
+places t k (suc n) = slotAt t k ∷ places t (suc k) n
+
+place-is : (t : List ℕ) (k n i : ℕ) (d : Slot) → i < n → getD (places t k n) i d ≡ slotAt t (k + i)
+place-is t k zero i d h = absurd (not-suc-le-zero h)
+place-is t k (suc n) zero d h = rw add-zero
+place-is t k (suc n) (suc i) d h = place-is t (suc k) n i d (le-of-suc-le-suc h) ∙ rw (suc-add, add-suc)
+
+pub slots-are : (t : List ℕ) → places t 0 32 ≡ slots → length t ≡ 1024 → (i : ℕ) → slotAt t i ≡ slotOf i
+unfolding slotOf slots bytes
+slots-are t e l i = go (ltb i 32) refl
+  where
+    go : (b : Bool) → ltb i 32 ≡ b → slotAt t i ≡ getD slots i (slot "" other)
+    go true h = sym (ap (λ (ss : List Slot). getD ss i (slot "" other)) (sym e) ∙ place-is t 0 32 i (slot "" other) (ltb-true i 32 h) ∙ ap (slotAt t) (zero-add i))
+    go false h =
+        let n : 32 ≤ i = ltb-false i 32 h in
+        let m : length t / 32 ≤ i = omega arith in
+        slot-none t i m ∙ sym (List·getD-eq-default slots (slot "" other) n)
+
+-- a fixed text has at most twelve bytes
+pub fixed-short : (t : List ℕ) (i : ℕ) → length (slotAt t i .fixed) ≤ 12
+unfolding slotAt
+fixed-short t i = go (leb (i * 32 + 32) (length t))
+  where
+    u : List ℕ
+    u = take 32 (drop (i * 32) t)
+
+    go : (b : Bool) → length ((cond {A = Slot} b (record { fixed = take (getD u 3 0 % 13) (drop 4 u); form = formOf (getD u 0 0) (getD u 1 0) (getD u 2 0) (drop 16 u) }) (record { fixed = []; form = other })) .fixed) ≤ 12
+    go true = rw length-take (omega arith)
+    go false = omega arith
+
+-- ---- the number of a value
+
+fixed-is : fixedOf 21 ≡ bytes "//GSCC"
+unfolding slotOf slots
+fixed-is = refl
+
+module _ (s : ℕ) (v : List ℕ) where
+  pub no-narrative : (s ≡ 21 → ⊥) → valueNumber (slotOf s) v ≡ numberOf s v
+  unfolding numberOf
+  no-narrative h = rw (ne-eqb s 21 h)
+
+  pub no-fixed : begins (bytes "//GSCC") v ≡ false → valueNumber (slotOf s) v ≡ numberOf s v
+  unfolding numberOf
+  no-fixed h = rw (fixed-is, h, and-false (eqb s 21))
+
+  -- the code's part of the narrative runs to the value's end
+  pub narrative-number : s ≡ 21 → begins (bytes "//GSCC") v ≡ true → (b : Bool) → b ≡ isNarrative (take (length v - 6) (drop 6 v)) → cond b 0 10 ≡ numberOf s v
+  unfolding numberOf bytes unless
+  narrative-number e h b g = rw (eq-eqb s 21 e, fixed-is, h, g, rest-of 6 (length v) v refl)

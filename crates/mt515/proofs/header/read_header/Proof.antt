@@ -1,0 +1,101 @@
+-- `mt515::header::read_header` meets its contract. Assumes nothing.
+use mathlib.Core.Path.{_∙_}
+use lib.ListN.{length-take}
+use native.Mathlib.Omega.{arith}
+use denote.Ref.{now}
+use Rattle.mt515.proofs.Heads.{Lined, one, two, three, four, between-is, four-judged, from-start}
+use borrow.Author.Needs.{needs}
+use Rattle.mt515.proofs.header.read_header.Statement.{statement}
+use Rattle.mt515.proofs.header.read_header.Tie as tie
+
+-- the four lines, from where the last of them is known
+first-line : (c : tie.After-line-at4) → Lined (now (c .before .before .before .before .before .args .message)) 0 0 (c .before .before .before .line-at .result)
+first-line c = one _ _ _ _ _ (c .before .before .before .line-at .ensures) (c .before .before .line-at2 .ensures) (c .before .line-at3 .ensures) (c .line-at4 .ensures)
+
+second-line : (c : tie.After-line-at4) → Lined (now (c .before .before .before .before .before .args .message)) 1 (c .before .before .before .line-at .result .next) (c .before .before .line-at2 .result)
+second-line c = two _ _ _ _ _ (c .before .before .before .line-at .ensures) (c .before .before .line-at2 .ensures) (c .before .line-at3 .ensures) (c .line-at4 .ensures)
+
+third-line : (c : tie.After-line-at4) → Lined (now (c .before .before .before .before .before .args .message)) 2 (c .before .before .line-at2 .result .next) (c .before .line-at3 .result)
+third-line c = three _ _ _ _ _ (c .before .before .before .line-at .ensures) (c .before .before .line-at2 .ensures) (c .before .line-at3 .ensures) (c .line-at4 .ensures)
+
+fourth-line : (c : tie.After-line-at4) → Lined (now (c .before .before .before .before .before .args .message)) 3 (c .before .line-at3 .result .next) (c .line-at4 .result)
+fourth-line c = four _ _ _ _ _ (c .before .before .before .line-at .ensures) (c .before .before .line-at2 .ensures) (c .before .line-at3 .ensures) (c .line-at4 .ensures)
+
+line-at-requires : tie.Need-line-at-requires
+line-at-requires c κs = search needs
+
+line-at-requires-2 : tie.Need-line-at-requires-2
+line-at-requires-2 c κs = search needs
+
+line-at-requires-3 : tie.Need-line-at-requires-3
+line-at-requires-3 c κs = search needs
+
+line-at-requires-4 : tie.Need-line-at-requires-4
+line-at-requires-4 c κs = search needs
+
+slice-aggregate-judge : tie.Need-slice-aggregate-judge
+slice-aggregate-judge c = let s = first-line (c .before) .stops in rw length-take (omega arith)
+
+sub-judge : tie.Need-sub-judge
+sub-judge c = second-line (c .before) .starts
+
+part-judge-start : tie.Need-part-judge-start
+part-judge-start c = second-line (c .before) .starts
+
+part-judge-end : tie.Need-part-judge-end
+part-judge-end c = second-line (c .before) .stops
+
+sub-judge-2 : tie.Need-sub-judge-2
+sub-judge-2 c = third-line (c .before .before) .starts
+
+part-judge-start-2 : tie.Need-part-judge-start-2
+part-judge-start-2 c = third-line (c .before .before) .starts
+
+part-judge-end-2 : tie.Need-part-judge-end-2
+part-judge-end-2 c = third-line (c .before .before) .stops
+
+sub-judge-3 : tie.Need-sub-judge-3
+sub-judge-3 c = fourth-line (c .before .before .before) .starts
+
+part-judge-start-3 : tie.Need-part-judge-start-3
+part-judge-start-3 c = fourth-line (c .before .before .before) .starts
+
+part-judge-end-3 : tie.Need-part-judge-end-3
+part-judge-end-3 c = fourth-line (c .before .before .before) .stops
+
+judge-requires : tie.Need-judge-requires
+judge-requires c κs = search needs
+
+returns : tie.Need-returns
+returns c =
+    let d = c .before .before .before .before .before in
+    let a = first-line d in
+    let b = second-line d in
+    record {
+      verdict = c .judge .ensures ∙ four-judged _ _ _ _ _ (from-start (now (d .before .before .before .before .before .args .message)) _ (d .before .before .before .line-at .result .end) (a .here)) (b .here) (third-line d .here) (fourth-line d .here);
+      first = between-is _ _ _ (a .starts) (a .stops) ∙ a .here;
+      second = between-is _ _ _ (b .starts) (b .stops) ∙ b .here;
+      within = fourth-line d .within;
+      rest = fourth-line d .rest;
+    }
+
+pub read-header-spec : {M : Type 1} → statement M
+read-header-spec =
+    tie.close
+    (tie.spec
+    line-at-requires
+    line-at-requires-2
+    line-at-requires-3
+    line-at-requires-4
+    slice-aggregate-judge
+    sub-judge
+    part-judge-start
+    part-judge-end
+    sub-judge-2
+    part-judge-start-2
+    part-judge-end-2
+    sub-judge-3
+    part-judge-start-3
+    part-judge-end-3
+    judge-requires
+    returns)

@@ -1,0 +1,39 @@
+-- `mt515::table::fixed_length` meets its contract: the bytes of the slots are those of specs/Table, by computation. Assumes nothing.
+use Prim.Native.Nat.{ℕ}
+use mathlib.Core.Path.{_≡_, refl, ap, _∙_}
+use mathlib.Core.List.{List}
+use lib.ListN.{length}
+use denote.Ref.{now}
+use Rattle.text.specs.Bytes.{bytes, parts}
+use Rattle.forms.specs.Forms.{Slot}
+use Rattle.forms.specs.Slots.{wordsOf, formOf, slotAt}
+use Rattle.mt515.specs.Table.{slots}
+use Rattle.mt515.proofs.Tables.{places, slots-are, fixed-short}
+use borrow.Author.Needs.{needs}
+use Rattle.mt515.proofs.table.fixed_length.Statement.{statement}
+use Rattle.mt515.proofs.table.fixed_length.Tie as tie
+
+slice-aggregate-fixed-text : tie.Need-slice-aggregate-fixed-text
+slice-aggregate-fixed-text c = search needs
+
+fixed-text-requires : tie.Need-fixed-text-requires
+fixed-text-requires c κs = search needs
+
+-- the bytes that were handed over are those of the slots
+held : (c : tie.After-fixed-text) → (t : List ℕ) × (now (c .fixed-text .result) ≡ slotAt t (c .before .before .args .slot) .fixed)
+held c = (_, c .fixed-text .ensures)
+
+right : (c : tie.After-fixed-text) → places (held c .0) 0 32 ≡ slots
+unfolding held bytes parts wordsOf formOf slotAt slots
+right c = refl
+
+long : (c : tie.After-fixed-text) → length (held c .0) ≡ 1024
+unfolding held
+long c = refl
+
+returns : tie.Need-returns
+returns c =
+    (ap length (held c .1 ∙ ap (λ (s : Slot). s .fixed) (slots-are (held c .0) (right c) (long c) _)), rw (held c .1) (fixed-short (held c .0) _))
+
+pub fixed-length-spec : {M : Type 1} → statement M
+fixed-length-spec = tie.close (tie.spec slice-aggregate-fixed-text fixed-text-requires returns)

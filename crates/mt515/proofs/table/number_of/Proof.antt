@@ -1,0 +1,72 @@
+-- `mt515::table::number_of` meets its contract. Assumes nothing.
+use mathlib.Core.Bool.{Bool, cond}
+use mathlib.Core.Path.{sym, ap, _∙_}
+use borrow.Author.Tests.{not-true, not-false}
+use Rattle.text.specs.Bytes.{bytes}
+use Rattle.text.proofs.Laws.{begins-length}
+use Rattle.mt515.proofs.Tables.{no-narrative, no-fixed, narrative-number}
+use borrow.Author.Needs.{needs}
+use Rattle.mt515.proofs.table.number_of.Statement.{statement}
+use Rattle.mt515.proofs.table.number_of.Tie as tie
+
+plain-number-requires : tie.Need-plain-number-requires
+plain-number-requires c κs = search needs
+
+returns : tie.Need-returns
+returns c = c .plain-number .ensures ∙ no-narrative _ _ (c .before .if1 .taken)
+
+slice-aggregate-begins-with : tie.Need-slice-aggregate-begins-with
+slice-aggregate-begins-with c = search needs
+
+begins-with-requires : tie.Need-begins-with-requires
+begins-with-requires c κs = search needs
+
+plain-number-requires-2 : tie.Need-plain-number-requires-2
+plain-number-requires-2 c κs = search needs
+
+returns-2 : tie.Need-returns-2
+unfolding bytes
+returns-2 c = c .plain-number2 .ensures ∙ no-fixed _ _ (sym (c .before .before .begins-with .ensures) ∙ not-true _ (c .before .if2 .taken))
+
+sub-is-narrative : tie.Need-sub-is-narrative
+unfolding bytes
+sub-is-narrative c = begins-length (bytes "//GSCC") _ (sym (c .before .begins-with .ensures) ∙ not-false _ (c .if2 .left))
+
+part-is-narrative-start : tie.Need-part-is-narrative-start
+unfolding bytes
+part-is-narrative-start c = begins-length (bytes "//GSCC") _ (sym (c .before .begins-with .ensures) ∙ not-false _ (c .if2 .left))
+
+part-is-narrative-end : tie.Need-part-is-narrative-end
+part-is-narrative-end c = search needs
+
+is-narrative-requires : tie.Need-is-narrative-requires
+is-narrative-requires c κs = search needs
+
+returns-3 : tie.Need-returns-3
+unfolding bytes
+returns-3 c =
+    let e = c .before .before .before in
+    ap (λ (b : Bool). cond b 0 10) (sym (c .if3 .taken)) ∙ narrative-number _ _ (e .before .before .before .if1 .left) (sym (e .before .begins-with .ensures) ∙ not-false _ (e .if2 .left)) _ (c .before .is-narrative .ensures)
+
+returns-4 : tie.Need-returns-4
+unfolding bytes
+returns-4 c =
+    let e = c .before .before .before in
+    ap (λ (b : Bool). cond b 0 10) (sym (c .if3 .left)) ∙ narrative-number _ _ (e .before .before .before .if1 .left) (sym (e .before .begins-with .ensures) ∙ not-false _ (e .if2 .left)) _ (c .before .is-narrative .ensures)
+
+pub number-of-spec : {M : Type 1} → statement M
+number-of-spec =
+    tie.close
+    (tie.spec
+    plain-number-requires
+    returns
+    slice-aggregate-begins-with
+    begins-with-requires
+    plain-number-requires-2
+    returns-2
+    sub-is-narrative
+    part-is-narrative-start
+    part-is-narrative-end
+    is-narrative-requires
+    returns-3
+    returns-4)

@@ -1,0 +1,101 @@
+-- Document 01, "B and its neighbours": B, the neighbours that are marked to be proved, and those beside them, in one table.
+use Prim.Native.Nat.{ℕ, suc, _-_}
+use Prim.Native.String.{String}
+use mathlib.Core.Path.{_≡_}
+use mathlib.Core.List.{List, [], _∷_, _++_, map}
+use lib.ListN.{take, drop, getD}
+use Rattle.text.specs.Bytes.{bytes}
+use Rattle.text.specs.Texts.{textOf}
+use Rattle.lines.specs.Verdicts.{refused}
+use Rattle.mt515.specs.Reading.{verdictOf, readOf}
+use Rattle.mt515.specs.declared.Reading.{Reading}
+
+unfoldable pub b : List String
+b =
+    "" ∷ "0017" ∷ "515/000/GSCC" ∷ "MBSCTRRS"
+    ∷ ":16R:GENL"
+    ∷ ":20C::SEME//0008"
+    ∷ ":23G:NEWM"
+    ∷ ":22F::TRTR/GSCC/CASH"
+    ∷ ":16R:LINK"
+    ∷ ":20C::MAST//0017"
+    ∷ ":16S:LINK"
+    ∷ ":16S:GENL"
+    ∷ ":16R:CONFDET"
+    ∷ ":98C::TRAD//20240229093000"
+    ∷ ":98A::SETT//20240313"
+    ∷ ":90A::DEAL//PRCT/99,50"
+    ∷ ":22H::BUSE//BUYI"
+    ∷ ":22F::PROC/GSCC/INST"
+    ∷ ":22H::PAYM//APMT"
+    ∷ ":16R:CONFPRTY"
+    ∷ ":95R::SELL/GSCC/PART0015"
+    ∷ ":16S:CONFPRTY"
+    ∷ ":16R:CONFPRTY"
+    ∷ ":95R::BUYR/GSCC/PART0017"
+    ∷ ":16S:CONFPRTY"
+    ∷ ":36B::CONF//FAMT/0001000000,"
+    ∷ ":35B:/US/01F070633"
+    ∷ ":70E::TPRO//GSCC/TDSVSTIP"
+    ∷ ":16S:CONFDET"
+    ∷ "-"
+    ∷ []
+
+-- lines with one ending
+unfoldable pub ended : String → List String → List ℕ
+ended ending [] = []
+ended ending (l ∷ ls) = bytes l ++ (bytes ending ++ ended ending ls)
+
+-- a message without its line n, with another line n, with more lines behind line n, with lines n and n + 1 exchanged
+unfoldable pub without : ℕ → List String → List String
+without n ls = take (n - 1) ls ++ drop n ls
+
+unfoldable pub with : ℕ → String → List String → List String
+with n l ls = take (n - 1) ls ++ l ∷ drop n ls
+
+unfoldable pub behind : ℕ → List String → List String → List String
+behind n more ls = take n ls ++ (more ++ drop n ls)
+
+unfoldable pub exchanged : ℕ → List String → List String
+exchanged n ls = take (n - 1) ls ++ getD ls n "" ∷ getD ls (n - 1) "" ∷ drop (suc n) ls
+
+-- a message, and the number and line that it gets
+unfoldable pub cases : List (List String × ℕ × ℕ)
+cases =
+    (b, 0, 0)
+    ∷ (with 10 ":20C::MAST//17" b, 0, 0)
+    ∷ (with 10 ":20C::MAST//15" b, 0, 0)
+    ∷ (with 26 ":36B::CONF//FAMT/0017," b, 0, 0)
+    ∷ (with 26 ":36B::CONF//FAMT/," b, 11, 26)
+    ∷ (with 26 ":36B::CONF//FAMT/17" b, 11, 26)
+    ∷ (with 26 ":36B::CONF//FAMT/1,2," b, 11, 26)
+    ∷ (with 26 ":36B::CONF//FAMT/12345678901234," b, 0, 0)
+    ∷ (with 26 ":36B::CONF//FAMT/123456789012345," b, 11, 26)
+    ∷ (with 16 ":90A::DEAL//PRCT/0," b, 0, 0)
+    ∷ (with 26 ":36B::CONF//FAMT/0,000" b, 16, 0)
+    ∷ (with 14 ":98C::TRAD//20000229093000" b, 0, 0)
+    ∷ (with 14 ":98C::TRAD//20230229093000" b, 12, 14)
+    ∷ (with 14 ":98C::TRAD//19000229093000" b, 12, 14)
+    ∷ (without 11 b, 6, 11)
+    ∷ (without 27 b, 9, 27)
+    ∷ (exchanged 14 b, 9, 14)
+    ∷ (behind 11 (":16R:LINK" ∷ ":20C::MAST//0017" ∷ ":16S:LINK" ∷ []) b, 8, 13)
+    ∷ (with 15 ":98A::SETT//20240229" b, 0, 0)
+    ∷ (with 15 ":98A::SETT//20240228" b, 17, 0)
+    ∷ (with 6 ":20C::SEME//ABCDEFGHIJKLMNOP" b, 0, 0)
+    ∷ (with 6 ":20C::SEME//ABCDEFGHIJKLMNOPQ" b, 10, 6)
+    ∷ ("X" ∷ "-" ∷ [], 4, 2)
+    ∷ []
+
+abbrev pub read : List String → Reading
+read ls = readOf (ended "\n" ls)
+
+-- each message gets the number and line beside it; B's par is 1000000 and its price 99,5; MAST 0017, 17 and 15 stay as they
+-- are written, so that they are three records; and with CR LF the record is the same
+abbrev pub Answered : Type 0
+Answered =
+    (map (λ row. verdictOf (ended "\n" (row .0))) cases ≡ map (λ row. refused (row .1) (row .2)) cases)
+    × (read b .trade .par .0 ≡ record { number = 1000000; decimals = 0 })
+    × (read b .trade .price .0 ≡ record { number = 995; decimals = 1 })
+    × (map (λ row. read (row .0) .trade .mast) (take 3 cases) ≡ map (λ s. textOf (bytes s)) ("0017" ∷ "17" ∷ "15" ∷ []))
+    × (readOf (ended "\r\n" b) ≡ read b)

@@ -1,0 +1,6 @@
+pub mod Table
+pub mod Values
+pub mod Body
+pub mod Walks
+pub mod Reading
+pub mod Cases

@@ -1,0 +1,72 @@
+// The header: four lines, of which the first two are kept in the record.
+use lines::Verdict;
+ghost use mathlib.Core.Path.{_≡_};
+ghost use Rattle.lines.specs.Verdicts.{refused};
+ghost use Rattle.mt515.specs.Body.{headerVerdict};
+ghost use Rattle.mt515.specs.Walks.{Headed};
+
+// What the header comes to: a verdict, the end of the first line, the start and end of the second, and the place behind all
+// four.
+pub(crate) struct Header {
+    pub verdict: Verdict,
+    pub first: usize,
+    pub second: usize,
+    pub end: usize,
+    pub behind: usize,
+}
+
+fn wrong(line: usize) -> Verdict
+    ensures { λ r. ⌜ r ≡ refused 4 line ⌝ }
+{
+    Verdict { number: 4, line }
+}
+
+// The header of a message.
+pub(crate) fn read_header(message: &[u8]) -> Header
+    ensures { λ r. ⌜ Headed (now (message .entry)) r ⌝ }
+{
+    let one = lines::line_at(message, 0);
+    let first = one.end;
+    let second = one.next;
+    let two = lines::line_at(message, second);
+    let end = two.end;
+    let third = two.next;
+    let three = lines::line_at(message, third);
+    let third_end = three.end;
+    let fourth = three.next;
+    let four = lines::line_at(message, fourth);
+    let fourth_end = four.end;
+    let behind = four.next;
+    let verdict = judge(
+        &message[..first],
+        &message[second..end],
+        &message[third..third_end],
+        &message[fourth..fourth_end],
+    );
+    Header {
+        verdict,
+        first,
+        second,
+        end,
+        behind,
+    }
+}
+
+// The first of the four lines that is wrong.
+fn judge(password: &[u8], sender: &[u8], kind: &[u8], receiver: &[u8]) -> Verdict
+    ensures { λ r. ⌜ r ≡ headerVerdict (now (password .entry)) (now (sender .entry)) (now (kind .entry)) (now (receiver .entry)) ⌝ }
+{
+    if !forms::is_code(password, 0, 12) {
+        return wrong(1);
+    }
+    if !forms::is_code(sender, 1, 8) {
+        return wrong(2);
+    }
+    if !text::equals(kind, b"515/000/GSCC") {
+        return wrong(3);
+    }
+    if !text::equals(receiver, b"MBSCTRRS") {
+        return wrong(4);
+    }
+    Verdict::PASS
+}

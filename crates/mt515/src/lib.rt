@@ -1,0 +1,73 @@
+// The MT515: a message is read into its record, or refused with a number and a line.
+//
+// What is right stands in specs/: Table, Values, Body and Reading.
+mod header;
+mod table;
+mod walk;
+
+use lines::Verdict;
+use trade::Trade;
+ghost use mathlib.Core.Path.{_≡_};
+ghost use Rattle.trade.specs.Records.{blankTrade};
+ghost use Rattle.trade.specs.Stretches.{stretchOf};
+ghost use Rattle.mt515.specs.Reading.{judged, readOf};
+
+// What the desk gets back of a message: 0 and the record, or a number and a line with the blank record beside them.
+pub struct Reading {
+    pub number: u64,
+    pub line: usize,
+    pub trade: Trade,
+}
+
+fn refuse(verdict: Verdict) -> Reading
+    ensures { λ r. ⌜ r ≡ record { number = verdict .number; line = verdict .line; trade = blankTrade } ⌝ }
+{
+    Reading {
+        number: verdict.number,
+        line: verdict.line,
+        trade: trade::blank(),
+    }
+}
+
+// Reads a message.
+pub fn read(message: &[u8]) -> Reading
+    ensures { λ r. ⌜ r ≡ readOf (now (message .entry)) ⌝ }
+{
+    let lines = lines::check(message);
+    if lines.number != 0 {
+        return refuse(lines);
+    }
+    let head = header::read_header(message);
+    let header = head.verdict;
+    if header.number != 0 {
+        return refuse(header);
+    }
+    let blocks = blocks::nesting(message);
+    if blocks.number != 0 {
+        return refuse(blocks);
+    }
+    let body = walk::walk(message, head.behind, head.first, head.second, head.end);
+    let values = body.verdict;
+    if values.number != 0 {
+        return refuse(values);
+    }
+    let starts = body.starts;
+    let ends = body.ends;
+    judge(message, &starts, &ends)
+}
+
+// The record of a message with nothing wrong up to its values, judged by its kind.
+fn judge<'a, 'b>(message: &'a [u8], starts: &'b [usize], ends: &'b [usize]) -> Reading
+    ensures { λ r. ⌜ r ≡ judged (stretchOf (now (message .entry)) (now (starts .entry)) (now (ends .entry))) ⌝ }
+{
+    let trade = trade::gather(message, starts, ends);
+    let kinds = kinds::kinds_pass(trade::stretch(message, starts, ends, 2), trade);
+    if kinds.number != 0 {
+        return refuse(kinds);
+    }
+    Reading {
+        number: kinds.number,
+        line: kinds.line,
+        trade,
+    }
+}

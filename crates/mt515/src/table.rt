@@ -1,0 +1,124 @@
+// The MT515 as bytes: the rows of its table, and the fixed text and form of each slot. The proofs hold both against
+// specs/Table.
+use layout::Place;
+use layout::Step;
+ghost use mathlib.Core.Path.{_≡_};
+ghost use Prim.Native.Nat.{_≤_};
+ghost use lib.ListN.{length};
+ghost use Rattle.forms.specs.Forms.{valueNumber};
+ghost use Rattle.layout.specs.Layout.{stepOf};
+ghost use Rattle.mt515.specs.Table.{table, slotOf, fixedOf};
+ghost use Rattle.mt515.specs.Values.{numberOf};
+
+// Sixteen bytes a row: its kind, its slot, the length of its text, the text.
+const TABLE: [u8; 624] = *b"\x03\x00\x09:16R:GENL    \
+    \x01\x01\x0a:20C::SEME   \
+    \x01\x02\x05:23G:        \
+    \x02\x03\x0a:98C::PREP   \
+    \x01\x1e\x0a:22F::TRTR   \
+    \x06\x00\x09:16R:LINK    \
+    \x08\x04\x0a:20C::MAST   \
+    \x09\x00\x09:16S:LINK    \
+    \x08\x05\x0a:20C::PREV   \
+    \x09\x00\x09:16S:LINK    \
+    \x08\x06\x0a:20C::LIST   \
+    \x09\x00\x09:16S:LINK    \
+    \x00\x00\x00             \
+    \x05\x00\x09:16S:GENL    \
+    \x03\x00\x0c:16R:CONFDET \
+    \x01\x07\x0a:98C::TRAD   \
+    \x01\x08\x0a:98A::SETT   \
+    \x01\x09\x0a:90A::DEAL   \
+    \x01\x0a\x0a:22H::BUSE   \
+    \x01\x0b\x0a:22F::PROC   \
+    \x01\x1f\x0a:22H::PAYM   \
+    \x07\x00\x0d:16R:CONFPRTY\
+    \x08\x0c\x0a:95R::BUYR   \
+    \x02\x0d\x0a:20C::PROC   \
+    \x02\x0e\x0a:70C::PACO   \
+    \x09\x00\x0d:16S:CONFPRTY\
+    \x08\x0f\x0a:95R::SELL   \
+    \x02\x10\x0a:20C::PROC   \
+    \x02\x11\x0a:70C::PACO   \
+    \x09\x00\x0d:16S:CONFPRTY\
+    \x00\x00\x00             \
+    \x01\x12\x0a:36B::CONF   \
+    \x01\x13\x05:35B:        \
+    \x04\x00\x08:16R:FIA     \
+    \x01\x14\x0a:13B::POOL   \
+    \x05\x00\x08:16S:FIA     \
+    \x01\x15\x0a:70E::TPRO   \
+    \x05\x00\x0c:16S:CONFDET \
+    \x05\x00\x01-            ";
+
+// Thirty-two bytes a slot: its form, least and most width, the length of the fixed text, the fixed text, and its words.
+const SLOTS: [u8; 1024] = *b"\x00\x00\x00\x00            ................\
+    \x01\x01\x10\x02//          ................\
+    \x02\x00\x02\x00            NEWMCANC........\
+    \x05\x00\x00\x02//          ................\
+    \x01\x01\x10\x02//          ................\
+    \x01\x01\x10\x02//          ................\
+    \x01\x01\x10\x02//          ................\
+    \x05\x00\x00\x02//          ................\
+    \x04\x00\x00\x02//          ................\
+    \x03\x00\x00\x07//PRCT/     ................\
+    \x02\x00\x02\x02//          BUYISELL........\
+    \x02\x00\x04\x06/GSCC/      INSTCANCMDFCTDDK\
+    \x01\x04\x04\x0a/GSCC/PART  ................\
+    \x01\x01\x10\x02//          ................\
+    \x01\x01\x14\x0b//GSCC/TDID ................\
+    \x01\x04\x04\x0a/GSCC/PART  ................\
+    \x01\x01\x10\x02//          ................\
+    \x01\x01\x14\x0b//GSCC/TDID ................\
+    \x03\x00\x00\x07//FAMT/     ................\
+    \x01\x09\x09\x04/US/        ................\
+    \x01\x01\x09\x06/GSCC/      ................\
+    \x06\x00\x00\x06//GSCC      ................\
+    \x00\x00\x00\x00            ................\
+    \x00\x00\x00\x00            ................\
+    \x00\x00\x00\x00            ................\
+    \x00\x00\x00\x00            ................\
+    \x00\x00\x00\x00            ................\
+    \x00\x00\x00\x00            ................\
+    \x00\x00\x00\x00            ................\
+    \x00\x00\x00\x00            ................\
+    \x00\x00\x00\x0a/GSCC/CASH  ................\
+    \x00\x00\x00\x06//APMT      ................";
+
+// What a line does at a place of the table.
+pub(crate) fn step_at(here: Place, seen: &[u8], line: &[u8]) -> Step
+    ensures { λ r. ⌜ r ≡ stepOf table here (now (seen .entry)) (now (line .entry)) ⌝ }
+{
+    layout::next_step(&TABLE, here, seen, line)
+}
+
+// How long the fixed text of a slot is.
+pub(crate) fn fixed_length(slot: usize) -> usize
+    ensures { λ r. ⌜ (r ≡ length (fixedOf slot)) × (r ≤ 12) ⌝ }
+{
+    forms::fixed_text(&SLOTS, slot).len()
+}
+
+// The number of a value by its slot, the narrative left to its own form.
+fn plain_number(slot: usize, value: &[u8]) -> u64
+    ensures { λ r. ⌜ r ≡ valueNumber (slotOf slot) (now (value .entry)) ⌝ }
+{
+    forms::judge(&SLOTS, slot, value)
+}
+
+// The number of a value by its slot.
+pub(crate) fn number_of(slot: usize, value: &[u8]) -> u64
+    ensures { λ r. ⌜ r ≡ numberOf slot (now (value .entry)) ⌝ }
+{
+    if slot != 21 {
+        return plain_number(slot, value);
+    }
+    if !text::begins_with(value, b"//GSCC") {
+        return plain_number(slot, value);
+    }
+    if trade::narrative::is_narrative(&value[6..]) {
+        0
+    } else {
+        10
+    }
+}

@@ -1,0 +1,102 @@
+// The walk over the lines behind the header: each is held against the table, its value judged, and its place kept.
+use layout::Place;
+use lines::Verdict;
+ghost use mathlib.Core.Path.{_≡_};
+ghost use mathlib.Core.Bool.{cond};
+ghost use Prim.Native.Nat.{_≤_};
+ghost use lib.Dec.{eqb};
+ghost use lib.ListN.{length, drop, set};
+ghost use Rattle.lines.specs.Lines.{linesOf};
+ghost use Rattle.lines.specs.Verdicts.{then};
+ghost use Rattle.trade.specs.Stretches.{between};
+ghost use Rattle.mt515.specs.Values.{valueVerdict};
+ghost use Rattle.mt515.specs.Body.{lineOf};
+ghost use Rattle.mt515.specs.Walks.{Walked};
+
+// What a walk comes to: a verdict, and where the value of each slot begins and ends.
+pub(crate) struct Body {
+    pub verdict: Verdict,
+    pub starts: [usize; 32],
+    pub ends: [usize; 32],
+}
+
+// Keeps a place for a slot.
+fn keep(places: &mut [usize], slot: usize, place: usize)
+    ensures { λ _. ⌜ now (places .exit) ≡ set (now (places .entry)) slot place ⌝ }
+{
+    if slot < places.len() {
+        places[slot] = place;
+    }
+}
+
+// A slot is seen from then on.
+fn mark(seen: &mut [u8], slot: usize)
+    ensures { λ _. ⌜ now (seen .exit) ≡ set (now (seen .entry)) slot 1 ⌝ }
+{
+    if slot < seen.len() {
+        seen[slot] = 1;
+    }
+}
+
+// The first fault of the values, after one more value; slot 0 has none.
+fn first_fault(fault: Verdict, slot: usize, value: &[u8], line: usize) -> Verdict
+    ensures { λ r. ⌜ r ≡ cond (eqb slot 0) fault (then fault (valueVerdict slot line (now (value .entry)))) ⌝ }
+{
+    if slot == 0 {
+        return fault;
+    }
+    if fault.number != 0 {
+        return fault;
+    }
+    let number = crate::table::number_of(slot, value);
+    if number == 0 {
+        return Verdict::PASS;
+    }
+    Verdict { number, line }
+}
+
+// Walks the lines from a place on, the fifth line of the message. Of its first two lines, `first` is the end of the one, and
+// `second` and `end` are the start and end of the other.
+pub(crate) fn walk(message: &[u8], from: usize, first: usize, second: usize, end: usize) -> Body
+    requires { ⌜ (from ≤ length (now message)) × (linesOf (drop from (now message)) ≡ drop 4 (linesOf (now message))) × (between (now message) 0 first ≡ lineOf (now message) 0) × (between (now message) second end ≡ lineOf (now message) 1) ⌝ }
+    ensures { λ r. ⌜ Walked (now (message .entry)) r ⌝ }
+{
+    let mut starts = [0usize; 32];
+    let mut ends = [0usize; 32];
+    ends[28] = first;
+    starts[29] = second;
+    ends[29] = end;
+    let mut seen = [0u8; 32];
+    let mut here = Place { row: 0, back: 0 };
+    let mut fault = Verdict::PASS;
+    let mut at = from;
+    let mut n = 5;
+    while at < message.len() {
+        let line = lines::line_at(message, at);
+        let stop = line.end;
+        let step = crate::table::step_at(here, &seen, &message[at..stop]);
+        let number = step.number;
+        if number != 0 {
+            let verdict = Verdict { number, line: n };
+            return Body {
+                verdict,
+                starts,
+                ends,
+            };
+        }
+        let slot = step.slot;
+        let value = at + step.width;
+        fault = first_fault(fault, slot, &message[value..stop], n);
+        keep(&mut starts, slot, value + crate::table::fixed_length(slot));
+        keep(&mut ends, slot, stop);
+        mark(&mut seen, slot);
+        here = step.place;
+        at = line.next;
+        n += 1;
+    }
+    Body {
+        verdict: fault,
+        starts,
+        ends,
+    }
+}
