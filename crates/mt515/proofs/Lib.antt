@@ -1,4 +1,3 @@
-pub mod Tables
 pub mod Heads
 pub mod Steps
 pub mod Chain

@@ -21,8 +21,8 @@ use Rattle.layout.specs.declared.Place.{Place}
 use Rattle.layout.specs.declared.Step.{Step}
 use Rattle.layout.proofs.Laws.{run-next, takes-within}
 use Rattle.trade.specs.Stretches.{between, stretchOf}
-use Rattle.mt515.specs.Table.{table, fixedOf}
-use Rattle.mt515.specs.Values.{numberOf, valueVerdict, valuesPass, valueFrom}
+use Rattle.table.specs.Table.{table, fixedOf}
+use Rattle.table.specs.Values.{numberOf, valueVerdict, valuesPass, valueFrom}
 use Rattle.mt515.specs.Body.{lineOf, bodyOf, bodyPass, takenIn, headerValue, valueIn}
 
 -- ---- verdicts one behind the other

@@ -10,8 +10,8 @@ use Rattle.lines.specs.Lines.{linesOf}
 use Rattle.lines.specs.declared.Verdict.{Verdict}
 use Rattle.forms.specs.Forms.{isCode}
 use Rattle.layout.specs.Layout.{Taken, Run, refusedAt, taken, layoutOf}
-use Rattle.mt515.specs.Table.{table}
-use Rattle.mt515.specs.Values.{valuesPass, valueFrom}
+use Rattle.table.specs.Table.{table}
+use Rattle.table.specs.Values.{valuesPass, valueFrom}
 
 -- a line of a message, counted from 0
 unfoldable pub lineOf : List ℕ → ℕ → List ℕ

@@ -3,12 +3,18 @@ use Prim.Native.Nat.{ℕ, suc, _-_}
 use Prim.Native.String.{String}
 use mathlib.Core.Path.{_≡_}
 use mathlib.Core.List.{List, [], _∷_, _++_, map}
-use lib.ListN.{take, drop, getD}
+use lib.ListN.{take, drop, getD, replicate}
 use Rattle.text.specs.Bytes.{bytes}
 use Rattle.text.specs.Texts.{textOf}
+use Rattle.text.specs.declared.Text.{Text}
 use Rattle.lines.specs.Verdicts.{refused}
+use Rattle.trade.specs.Records.{blankTrade}
+use Rattle.trade.specs.declared.Kind.{Kind}
+use Rattle.trade.specs.declared.Side.{Side}
+use Rattle.trade.specs.declared.Service.{Service}
+use Rattle.trade.specs.declared.Period.{Period}
+use Rattle.trade.specs.declared.Trade.{Trade}
 use Rattle.mt515.specs.Reading.{verdictOf, readOf}
-use Rattle.mt515.specs.declared.Reading.{Reading}
 
 unfoldable pub b : List String
 b =
@@ -87,15 +93,39 @@ cases =
     ∷ ("X" ∷ "-" ∷ [], 4, 2)
     ∷ []
 
-abbrev pub read : List String → Reading
-read ls = readOf (ended "\n" ls)
+-- the record of B
+abbrev text : String → Text
+text s = textOf (bytes s)
 
--- each message gets the number and line beside it; B's par is 1000000 and its price 99,5; MAST 0017, 17 and 15 stay as they
--- are written, so that they are three records; and with CR LF the record is the same
+unfoldable pub tradeOfB : Trade
+tradeOfB =
+    record {
+      password = text "";
+      sender = text "0017";
+      seme = text "0008";
+      prep = blankTrade .prep;
+      mast = text "0017";
+      prev = text "";
+      list = text "";
+      trad = record { date = record { 0 = 20240229 }; time = record { 0 = 93000 } };
+      sett = record { 0 = 20240313 };
+      price = record { 0 = record { number = 995; decimals = 1 } };
+      side = Side.Buyi;
+      kind = Kind.Inst;
+      buyer = record { code = text "0017"; reference = text ""; trader = text "" };
+      seller = record { code = text "0015"; reference = text ""; trader = text "" };
+      par = record { 0 = record { number = 1000000; decimals = 0 } };
+      cusip = text "01F070633";
+      pool = text "";
+      service = Service.Stip;
+      period = Period.Absent;
+      reason = text "";
+    }
+
+-- each message gets the number and line beside it; B's record, with LF and with CR LF, is the one above; and MAST 0017, 17 and
+-- 15 stay as they are written, so that they are three records
 abbrev pub Answered : Type 0
 Answered =
     (map (λ row. verdictOf (ended "\n" (row .0))) cases ≡ map (λ row. refused (row .1) (row .2)) cases)
-    × (read b .trade .par .0 ≡ record { number = 1000000; decimals = 0 })
-    × (read b .trade .price .0 ≡ record { number = 995; decimals = 1 })
-    × (map (λ row. read (row .0) .trade .mast) (take 3 cases) ≡ map (λ s. textOf (bytes s)) ("0017" ∷ "17" ∷ "15" ∷ []))
-    × (readOf (ended "\r\n" b) ≡ read b)
+    × (map (λ ending. readOf (ended ending b)) ("\n" ∷ "\r\n" ∷ []) ≡ replicate 2 (record { number = 0; line = 0; trade = tradeOfB }))
+    × (map (λ row. readOf (ended "\n" (row .0)) .trade .mast) (take 3 cases) ≡ map text ("0017" ∷ "17" ∷ "15" ∷ []))

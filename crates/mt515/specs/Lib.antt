@@ -1,5 +1,3 @@
-pub mod Table
-pub mod Values
 pub mod Body
 pub mod Walks
 pub mod Reading

@@ -1,8 +1,7 @@
 // The MT515: a message is read into its record, or refused with a number and a line.
 //
-// What is right stands in specs/: Table, Values, Body and Reading.
+// What is right stands in specs/: Body and Reading, over the Table and Values of the crate `table`.
 mod header;
-mod table;
 mod walk;
 
 use lines::Verdict;

@@ -9,7 +9,7 @@ ghost use lib.ListN.{length, drop, set};
 ghost use Rattle.lines.specs.Lines.{linesOf};
 ghost use Rattle.lines.specs.Verdicts.{then};
 ghost use Rattle.trade.specs.Stretches.{between};
-ghost use Rattle.mt515.specs.Values.{valueVerdict};
+ghost use Rattle.table.specs.Values.{valueVerdict};
 ghost use Rattle.mt515.specs.Body.{lineOf};
 ghost use Rattle.mt515.specs.Walks.{Walked};
 
@@ -48,7 +48,7 @@ fn first_fault(fault: Verdict, slot: usize, value: &[u8], line: usize) -> Verdic
     if fault.number != 0 {
         return fault;
     }
-    let number = crate::table::number_of(slot, value);
+    let number = table::number_of(slot, value);
     if number == 0 {
         return Verdict::PASS;
     }
@@ -74,7 +74,7 @@ pub(crate) fn walk(message: &[u8], from: usize, first: usize, second: usize, end
     while at < message.len() {
         let line = lines::line_at(message, at);
         let stop = line.end;
-        let step = crate::table::step_at(here, &seen, &message[at..stop]);
+        let step = table::step_at(here, &seen, &message[at..stop]);
         let number = step.number;
         if number != 0 {
             let verdict = Verdict { number, line: n };
@@ -87,7 +87,7 @@ pub(crate) fn walk(message: &[u8], from: usize, first: usize, second: usize, end
         let slot = step.slot;
         let value = at + step.width;
         fault = first_fault(fault, slot, &message[value..stop], n);
-        keep(&mut starts, slot, value + crate::table::fixed_length(slot));
+        keep(&mut starts, slot, value + table::fixed_length(slot));
         keep(&mut ends, slot, stop);
         mark(&mut seen, slot);
         here = step.place;

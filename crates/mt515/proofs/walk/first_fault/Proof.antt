@@ -2,7 +2,7 @@
 use mathlib.Core.Path.{_≡_, sym, _∙_}
 use borrow.Author.Tests.{eq-eqb, ne-eqb}
 use Rattle.lines.specs.Verdicts.{refused, pass, then}
-use Rattle.mt515.specs.Values.{valueVerdict}
+use Rattle.table.specs.Values.{valueVerdict}
 use borrow.Author.Needs.{needs}
 use Rattle.mt515.proofs.walk.first_fault.Statement.{statement}
 use Rattle.mt515.proofs.walk.first_fault.Tie as tie

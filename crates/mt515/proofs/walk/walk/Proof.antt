@@ -3,7 +3,7 @@
 use mathlib.Core.List.{List}
 use mathlib.Core.Bool.{cond}
 use lib.Dec.{eqb}
-use Rattle.mt515.specs.Values.{valueVerdict}
+use Rattle.table.specs.Values.{valueVerdict}
 use Prim.Native.Nat.{ℕ, _+_, _≤_}
 use Rattle.lines.specs.Verdicts.{refused, pass, then}
 use Prim.Native.Nat.{_-_}
@@ -13,7 +13,7 @@ use native.Mathlib.Omega.{arith}
 use borrow.Author.Needs.{needs}
 use denote.Ref.{now}
 use Rattle.lines.proofs.Laws.{Located, located}
-use Rattle.layout.proofs.Laws.{takes-within}
+use Rattle.table.proofs.Laws.{fixed-short}
 use Rattle.mt515.proofs.Steps.{Kept, begin, width-in, value-part, refusal, again, last-verdict, last-values}
 use Rattle.mt515.proofs.walk.walk.Statement.{statement}
 use Rattle.mt515.proofs.walk.walk.Tie as tie
@@ -103,7 +103,7 @@ fixed-length-requires : tie.Need-fixed-length-requires Inv-loop μ-loop
 fixed-length-requires c κs = search needs
 
 add-keep : tie.Need-add-keep Inv-loop μ-loop
-add-keep c = let w = within (c .before .before .before .before .before .before) in let t = stops (c .before .before .before .before .before .before .before .before .before) in omega (arith, c .fixed-length .ensures .1)
+add-keep c = let w = within (c .before .before .before .before .before .before) in let t = stops (c .before .before .before .before .before .before .before .before .before) in omega (arith, c .fixed-length .ensures, fixed-short (c .before .before .before .before .before .before .step-at .result .slot))
 
 keep-requires : tie.Need-keep-requires Inv-loop μ-loop
 keep-requires c κs = search needs
@@ -138,7 +138,7 @@ loop-again c =
     let a = l .before .before .loop in
     let v = value-part _ _ _ _ _ _ _ _ (a .inv) _ _ (p .go-on) (p .starts) (stops l) (p .grows) (p .within) _ (s .step-at .ensures) in
     again _ _ _ _ _ _ _ _ (a .inv) _ _ (p .go-on) (p .starts) (stops l) (p .grows) (p .within) _ (s .step-at .ensures) (c .before .before .before .before .before .before .before .before .before .before .before .before .before .before .if1 .left) _ _ _ _
-    (c .before .before .before .before .before .before .before .before .keep .ensures ∙ ap (λ (x : ℕ). set (a .starts) (s .step-at .result .slot) (a .at + s .step-at .result .width + x)) (c .before .before .before .before .before .before .before .before .before .fixed-length .ensures .0))
+    (c .before .before .before .before .before .before .before .before .keep .ensures ∙ ap (λ (x : ℕ). set (a .starts) (s .step-at .result .slot) (a .at + s .step-at .result .width + x)) (c .before .before .before .before .before .before .before .before .before .fixed-length .ensures))
     (c .before .before .before .before .before .keep2 .ensures)
     (c .before .before .mark .ensures)
     (c .before .before .before .before .before .before .before .before .before .before .before .first-fault .ensures ∙ ap (λ (x : List ℕ). cond (eqb (s .step-at .result .slot) 0) (a .fault) (then (a .fault) (valueVerdict (s .step-at .result .slot) (a .n) x))) v)

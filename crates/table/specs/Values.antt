@@ -10,7 +10,7 @@ use Rattle.lines.specs.declared.Verdict.{Verdict}
 use Rattle.forms.specs.Forms.{unless, valueNumber}
 use Rattle.layout.specs.Layout.{Taken}
 use Rattle.trade.specs.Narrative.{isNarrative}
-use Rattle.mt515.specs.Table.{slotOf, fixedOf}
+use Rattle.table.specs.Table.{slotOf, fixedOf}
 
 -- the number of a value: the narrative has a form of its own
 unfoldable pub numberOf : ℕ → List ℕ → ℕ

@@ -1,13 +1,13 @@
--- `mt515::table::number_of` meets its contract. Assumes nothing.
+-- `table::number_of` meets its contract. Assumes nothing.
 use mathlib.Core.Bool.{Bool, cond}
 use mathlib.Core.Path.{sym, ap, _∙_}
 use borrow.Author.Tests.{not-true, not-false}
 use Rattle.text.specs.Bytes.{bytes}
 use Rattle.text.proofs.Laws.{begins-length}
-use Rattle.mt515.proofs.Tables.{no-narrative, no-fixed, narrative-number}
+use Rattle.table.proofs.Tables.{no-narrative, no-fixed, narrative-number}
 use borrow.Author.Needs.{needs}
-use Rattle.mt515.proofs.table.number_of.Statement.{statement}
-use Rattle.mt515.proofs.table.number_of.Tie as tie
+use Rattle.table.proofs.number_of.Statement.{statement}
+use Rattle.table.proofs.number_of.Tie as tie
 
 plain-number-requires : tie.Need-plain-number-requires
 plain-number-requires c κs = search needs

@@ -1,14 +1,13 @@
 // The MT515 as bytes: the rows of its table, and the fixed text and form of each slot. The proofs hold both against
-// specs/Table.
+// specs/Table; what the number of a value is stands in specs/Values.
 use layout::Place;
 use layout::Step;
 ghost use mathlib.Core.Path.{_≡_};
-ghost use Prim.Native.Nat.{_≤_};
 ghost use lib.ListN.{length};
 ghost use Rattle.forms.specs.Forms.{valueNumber};
 ghost use Rattle.layout.specs.Layout.{stepOf};
-ghost use Rattle.mt515.specs.Table.{table, slotOf, fixedOf};
-ghost use Rattle.mt515.specs.Values.{numberOf};
+ghost use Rattle.table.specs.Table.{table, slotOf, fixedOf};
+ghost use Rattle.table.specs.Values.{numberOf};
 
 // Sixteen bytes a row: its kind, its slot, the length of its text, the text.
 const TABLE: [u8; 624] = *b"\x03\x00\x09:16R:GENL    \
@@ -86,15 +85,15 @@ const SLOTS: [u8; 1024] = *b"\x00\x00\x00\x00            ................\
     \x00\x00\x00\x06//APMT      ................";
 
 // What a line does at a place of the table.
-pub(crate) fn step_at(here: Place, seen: &[u8], line: &[u8]) -> Step
+pub fn step_at(here: Place, seen: &[u8], line: &[u8]) -> Step
     ensures { λ r. ⌜ r ≡ stepOf table here (now (seen .entry)) (now (line .entry)) ⌝ }
 {
     layout::next_step(&TABLE, here, seen, line)
 }
 
 // How long the fixed text of a slot is.
-pub(crate) fn fixed_length(slot: usize) -> usize
-    ensures { λ r. ⌜ (r ≡ length (fixedOf slot)) × (r ≤ 12) ⌝ }
+pub fn fixed_length(slot: usize) -> usize
+    ensures { λ r. ⌜ r ≡ length (fixedOf slot) ⌝ }
 {
     forms::fixed_text(&SLOTS, slot).len()
 }
@@ -107,7 +106,7 @@ fn plain_number(slot: usize, value: &[u8]) -> u64
 }
 
 // The number of a value by its slot.
-pub(crate) fn number_of(slot: usize, value: &[u8]) -> u64
+pub fn number_of(slot: usize, value: &[u8]) -> u64
     ensures { λ r. ⌜ r ≡ numberOf slot (now (value .entry)) ⌝ }
 {
     if slot != 21 {

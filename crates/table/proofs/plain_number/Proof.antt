@@ -1,4 +1,4 @@
--- `mt515::table::plain_number` meets its contract: the bytes of the slots are those of specs/Table, by computation. Assumes nothing.
+-- `table::plain_number` meets its contract: the bytes of the slots are those of specs/Table, by computation. Assumes nothing.
 use Prim.Native.Nat.{ℕ}
 use mathlib.Core.Path.{_≡_, refl, ap, _∙_}
 use mathlib.Core.List.{List}
@@ -6,12 +6,12 @@ use lib.ListN.{length}
 use Rattle.text.specs.Bytes.{bytes, parts}
 use Rattle.forms.specs.Forms.{Slot, valueNumber}
 use Rattle.forms.specs.Slots.{wordsOf, formOf, slotAt}
-use Rattle.mt515.specs.Table.{slots}
-use Rattle.mt515.proofs.Tables.{places, slots-are}
+use Rattle.table.specs.Table.{slots}
+use Rattle.table.proofs.Tables.{places, slots-are}
 use denote.Ref.{now}
 use borrow.Author.Needs.{needs}
-use Rattle.mt515.proofs.table.plain_number.Statement.{statement}
-use Rattle.mt515.proofs.table.plain_number.Tie as tie
+use Rattle.table.proofs.plain_number.Statement.{statement}
+use Rattle.table.proofs.plain_number.Tie as tie
 
 slice-aggregate-judge : tie.Need-slice-aggregate-judge
 slice-aggregate-judge c = search needs

@@ -1,10 +1,10 @@
--- `mt515::table::step_at` meets its contract: the bytes of the table are the rows of specs/Table, by computation. Assumes nothing.
+-- `table::step_at` meets its contract: the bytes of the table are the rows of specs/Table, by computation. Assumes nothing.
 use Rattle.text.specs.Bytes.{bytes}
 use Rattle.layout.specs.Rows.{rowOf, keyOf, firstRow, rowsFrom, rowsOf}
-use Rattle.mt515.specs.Table.{table}
+use Rattle.table.specs.Table.{table}
 use borrow.Author.Needs.{needs}
-use Rattle.mt515.proofs.table.step_at.Statement.{statement}
-use Rattle.mt515.proofs.table.step_at.Tie as tie
+use Rattle.table.proofs.step_at.Statement.{statement}
+use Rattle.table.proofs.step_at.Tie as tie
 
 slice-aggregate-next-step : tie.Need-slice-aggregate-next-step
 slice-aggregate-next-step c = search needs

@@ -1,4 +1,4 @@
--- `mt515::table::fixed_length` meets its contract: the bytes of the slots are those of specs/Table, by computation. Assumes nothing.
+-- `table::fixed_length` meets its contract: the bytes of the slots are those of specs/Table, by computation. Assumes nothing.
 use Prim.Native.Nat.{ℕ}
 use mathlib.Core.Path.{_≡_, refl, ap, _∙_}
 use mathlib.Core.List.{List}
@@ -7,11 +7,11 @@ use denote.Ref.{now}
 use Rattle.text.specs.Bytes.{bytes, parts}
 use Rattle.forms.specs.Forms.{Slot}
 use Rattle.forms.specs.Slots.{wordsOf, formOf, slotAt}
-use Rattle.mt515.specs.Table.{slots}
-use Rattle.mt515.proofs.Tables.{places, slots-are, fixed-short}
+use Rattle.table.specs.Table.{slots}
+use Rattle.table.proofs.Tables.{places, slots-are}
 use borrow.Author.Needs.{needs}
-use Rattle.mt515.proofs.table.fixed_length.Statement.{statement}
-use Rattle.mt515.proofs.table.fixed_length.Tie as tie
+use Rattle.table.proofs.fixed_length.Statement.{statement}
+use Rattle.table.proofs.fixed_length.Tie as tie
 
 slice-aggregate-fixed-text : tie.Need-slice-aggregate-fixed-text
 slice-aggregate-fixed-text c = search needs
@@ -32,8 +32,7 @@ unfolding held
 long c = refl
 
 returns : tie.Need-returns
-returns c =
-    (ap length (held c .1 ∙ ap (λ (s : Slot). s .fixed) (slots-are (held c .0) (right c) (long c) _)), rw (held c .1) (fixed-short (held c .0) _))
+returns c = ap length (held c .1 ∙ ap (λ (s : Slot). s .fixed) (slots-are (held c .0) (right c) (long c) _))
 
 pub fixed-length-spec : {M : Type 1} → statement M
 fixed-length-spec = tie.close (tie.spec slice-aggregate-fixed-text fixed-text-requires returns)

@@ -1,23 +1,23 @@
 -- The bytes of the slots are those of specs/Table: one test over all of them, and one law that gives it at each slot. And the
 -- number of a value by its slot.
 -- Assumes nothing.
-use Prim.Native.Nat.{ℕ, zero, suc, _+_, _-_, _*_, _/_, _%_, _≤_, _<_}
+use Prim.Native.Nat.{ℕ, zero, suc, _+_, _-_, _/_, _≤_, _<_}
 use mathlib.Core.Path.{_≡_, refl, sym, ap, _∙_}
 use mathlib.Core.Bool.{Bool, true, false, _&&_, cond, and-false}
 use mathlib.Core.List.{List, [], _∷_}
 use native.Mathlib.Nat.{add-zero, zero-add, add-suc, suc-add, not-suc-le-zero, le-of-suc-le-suc}
 use native.Mathlib.Omega.{arith}
-use lib.Dec.{leb, ltb, eqb}
-use lib.ListN.{length, take, drop, getD, length-take, List·getD-eq-default}
+use lib.Dec.{ltb, eqb}
+use lib.ListN.{length, take, drop, getD, List·getD-eq-default}
 use borrow.Author.Tests.{eq-eqb, ne-eqb, ltb-true, ltb-false}
 use Rattle.text.specs.Bytes.{bytes, begins}
 use Rattle.text.proofs.Laws.{rest-of}
-use Rattle.forms.specs.Forms.{Form, Slot, other, unless, valueNumber}
-use Rattle.forms.specs.Slots.{formOf, slotAt}
+use Rattle.forms.specs.Forms.{Slot, other, unless, valueNumber}
+use Rattle.forms.specs.Slots.{slotAt}
 use Rattle.forms.proofs.Turns.{slot-none}
 use Rattle.trade.specs.Narrative.{isNarrative}
-use Rattle.mt515.specs.Table.{slots, slotOf, slot, fixedOf}
-use Rattle.mt515.specs.Values.{numberOf}
+use Rattle.table.specs.Table.{slots, slotOf, slot, fixedOf}
+use Rattle.table.specs.Values.{numberOf}
 
 -- the slots of some bytes, from the k-th on
 abbrev pub places : List ℕ → ℕ → ℕ → List Slot
@@ -39,18 +39,6 @@ slots-are t e l i = go (ltb i 32) refl
         let n : 32 ≤ i = ltb-false i 32 h in
         let m : length t / 32 ≤ i = omega arith in
         slot-none t i m ∙ sym (List·getD-eq-default slots (slot "" other) n)
-
--- a fixed text has at most twelve bytes
-pub fixed-short : (t : List ℕ) (i : ℕ) → length (slotAt t i .fixed) ≤ 12
-unfolding slotAt
-fixed-short t i = go (leb (i * 32 + 32) (length t))
-  where
-    u : List ℕ
-    u = take 32 (drop (i * 32) t)
-
-    go : (b : Bool) → length ((cond {A = Slot} b (record { fixed = take (getD u 3 0 % 13) (drop 4 u); form = formOf (getD u 0 0) (getD u 1 0) (getD u 2 0) (drop 16 u) }) (record { fixed = []; form = other })) .fixed) ≤ 12
-    go true = rw length-take (omega arith)
-    go false = omega arith
 
 -- ---- the number of a value
 
