@@ -96,6 +96,13 @@ fn is_innermost(depth: usize, innermost: &[u8], name: &[u8]) -> bool
     text::equals(name, innermost)
 }
 
+// A walk in which nothing was wrong.
+fn passed(line: usize, at: usize) -> Walk
+    ensures { λ r. ⌜ r ≡ record { fault = 0; line = line; at = at } ⌝ }
+{
+    Walk { fault: 0, line, at }
+}
+
 // The walk over a block, from the place behind its opening line on.
 fn block(message: &[u8], from: usize, line: usize, depth: usize, name: &[u8]) -> Walk
     requires { ⌜ (from ≤ length (now message)) × (line + 1 ≤ from + 5) ⌝ }
@@ -111,13 +118,12 @@ fn block(message: &[u8], from: usize, line: usize, depth: usize, name: &[u8]) ->
     items(message, from, line + 1, depth + 1, name)
 }
 
-// The walk over the items of a block of that name, through its closing line; at depth 0 it goes up to the `-` line.
-fn items(message: &[u8], from: usize, first: usize, depth: usize, name: &[u8]) -> Walk
-    requires { ⌜ (from ≤ length (now message)) × (first ≤ from + 5) ⌝ }
-    ensures { λ r. ⌜ OfItems (now (message .entry)) from first depth (now (name .entry)) r ⌝ }
+// The walk over the items of a block of that name, from a place and its line through the closing line; at depth 0 it goes up
+// to the `-` line.
+fn items(message: &[u8], mut at: usize, mut line: usize, depth: usize, name: &[u8]) -> Walk
+    requires { ⌜ (at ≤ length (now message)) × (line ≤ at + 5) ⌝ }
+    ensures { λ r. ⌜ OfItems (now (message .entry)) at line depth (now (name .entry)) r ⌝ }
 {
-    let mut at = from;
-    let mut line = first;
     while at < message.len() {
         let here = lines::line_at(message, at);
         let end = here.end;
@@ -141,11 +147,7 @@ fn items(message: &[u8], from: usize, first: usize, depth: usize, name: &[u8]) -
                 if !is_innermost(depth, name, &text[5..]) {
                     return Walk { fault: 6, line, at };
                 }
-                return Walk {
-                    fault: 0,
-                    line: line + 1,
-                    at: here.next,
-                };
+                return passed(line + 1, here.next);
             }
             Role::Field => {
                 at = here.next;
@@ -154,7 +156,7 @@ fn items(message: &[u8], from: usize, first: usize, depth: usize, name: &[u8]) -
             Role::Wrong => return Walk { fault: 5, line, at },
         }
     }
-    Walk { fault: 0, line, at }
+    passed(line, at)
 }
 
 // The place behind the four lines of the header.

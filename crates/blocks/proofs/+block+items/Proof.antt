@@ -19,6 +19,7 @@ use Rattle.blocks.proofs.items.Reads as items
 use Rattle.blocks.proofs.items.Kinds as items-kinds
 use Rattle.blocks.proofs.+block+items.Lts-items as items-lts
 use Rattle.blocks.proofs.is_innermost.Reads as is-innermost-reads
+use Rattle.blocks.proofs.passed.Reads as passed-reads
 use Rattle.blocks.proofs.role_of.Reads as role-of-reads
 use Rattle.lines.proofs.line_at.Reads as line-at-reads
 use Rattle.blocks.proofs.+block+items.{statement}
@@ -63,14 +64,14 @@ module _ (t : ℕ) where
       block-items _ _ _ _ _ (s .pre .1 .0) (s .pre .1 .1) _ (c .before .if1 .left) (c .items .ensures)
 
 abbrev Inv-loop : items-lts.InvT-loop
-Inv-loop message from first depth name at₀ line₀ at line = Ahead message from first depth name at line
+Inv-loop message at₀ line₀ depth name at line = Ahead message at₀ line₀ depth name at line
 
 abbrev μ-loop : items-lts.MeasureT-loop
-μ-loop message from first depth name at₀ line₀ at line = length message - at
+μ-loop message at₀ line₀ depth name at line = length message - at
 
 -- what `items` calls, and what each of those asks and gives
 abbrev calls : ℕ → items-lts.Claims
-calls t = (line-at-reads.Asked, line-at-reads.Learnt, role-of-reads.Asked, role-of-reads.Learnt, block-below t, block.Post, is-innermost-reads.Asked, is-innermost-reads.Learnt)
+calls t = (line-at-reads.Asked, line-at-reads.Learnt, role-of-reads.Asked, role-of-reads.Learnt, block-below t, block.Post, is-innermost-reads.Asked, is-innermost-reads.Learnt, passed-reads.Asked, passed-reads.Learnt)
 
 module _ (t : ℕ) where
   -- the line that a turn looks at
@@ -188,19 +189,23 @@ module _ (t : ℕ) where
       let l = q .before .before in
       close-other _ _ _ _ _ _ _ _ _ (l .before .before .loop .inv) (here l) _ (q .role-of .ensures) (e .enum-told3 .given .1) _ (i .is-innermost .ensures) (not-true _ (c .if3 .taken))
 
-  items-add-t25 : items-lts.Need-add-t25 (calls t) (items-at t) items.Post Inv-loop μ-loop
-  items-add-t25 c =
+  items-add-passed : items-lts.Need-add-passed (calls t) (items-at t) items.Post Inv-loop μ-loop
+  items-add-passed c =
       let l = c .before .before .before .before .before .before .before in
       let a = l .before .before .loop .inv in
       omega arith
 
+  items-passed-requires : items-lts.Need-passed-requires (calls t) (items-at t) items.Post Inv-loop μ-loop
+  items-passed-requires c κs = search needs
+
   items-returns-4 : items-lts.Need-returns-4 (calls t) (items-at t) items.Post Inv-loop μ-loop
   items-returns-4 c =
-      let i = c .before in
+      let i = c .before .before in
       let e = i .before .before in
       let q = e .before .before in
       let l = q .before .before in
-      close-same _ _ _ _ _ _ _ _ _ (l .before .before .loop .inv) (here l) _ (q .role-of .ensures) (e .enum-told3 .given .1) _ (i .is-innermost .ensures) (not-false _ (c .if3 .left))
+      rw (c .passed .ensures)
+      (close-same _ _ _ _ _ _ _ _ _ (l .before .before .loop .inv) (here l) _ (q .role-of .ensures) (e .enum-told3 .given .1) _ (i .is-innermost .ensures) (not-false _ (c .before .if3 .left)))
 
   items-enum-told-4 : items-lts.Need-enum-told-4 (calls t) (items-at t) items.Post Inv-loop μ-loop
   items-enum-told-4 c = search needs
@@ -230,8 +235,11 @@ module _ (t : ℕ) where
       let l = q .before .before in
       wrong-line _ _ _ _ _ _ _ _ _ (l .before .before .loop .inv) (here l) _ (q .role-of .ensures) (c .enum-told5 .given .1)
 
+  items-passed-requires-2 : items-lts.Need-passed-requires-2 (calls t) (items-at t) items.Post Inv-loop μ-loop
+  items-passed-requires-2 c κs = search needs
+
   items-returns-6 : items-lts.Need-returns-6 (calls t) (items-at t) items.Post Inv-loop μ-loop
-  items-returns-6 c = all-done _ _ _ _ _ _ _ (c .before .loop .inv) (c .loop-test .left)
+  items-returns-6 c = rw (c .passed2 .ensures) (all-done _ _ _ _ _ _ _ (c .before .before .loop .inv) (c .before .loop-test .left))
 
 pub +block+items-spec : {M : Type 1} → statement M
 +block+items-spec =
@@ -276,7 +284,8 @@ pub +block+items-spec : {M : Type 1} → statement M
     (items-part-is-innermost-end t)
     (items-is-innermost-requires t)
     (items-returns-3 t)
-    (items-add-t25 t)
+    (items-add-passed t)
+    (items-passed-requires t)
     (items-returns-4 t)
     (items-enum-told-4 t)
     (items-add-line t)
@@ -284,4 +293,5 @@ pub +block+items-spec : {M : Type 1} → statement M
     (items-loop-again-3 t)
     (items-enum-told-5 t)
     (items-returns-5 t)
+    (items-passed-requires-2 t)
     (items-returns-6 t)
