@@ -1,19 +1,18 @@
 -- What callers cite: the rows of a table's bytes one by one, a run one line further, and that a line is at least as long as
 -- the text of the slot that it is taken for.
 -- Assumes nothing.
-use Prim.Native.Nat.{ℕ, zero, suc, _+_, _*_, _/_, _≤_, _<_}
+use Prim.Native.Nat.{ℕ, zero, suc, _+_, _*_, _/_, _%_, _≤_, _<_}
 use mathlib.Core.Path.{_≡_, refl, ap, _∙_}
 use mathlib.Core.Bool.{Bool, true, false, _&&_, _||_, cond}
-use mathlib.Core.List.{List, [], _∷_}
-use native.Mathlib.Nat.{add-zero, not-suc-le-zero, le-of-suc-le-suc}
-use native.Mathlib.Numerals.{add-one}
+use mathlib.Core.List.{List, [], _∷_, map}
+use native.Mathlib.Nat.{add-zero}
 use native.Mathlib.Omega.{arith}
 use lib.Dec.{eqb}
-use lib.ListN.{length, drop, getD, length-append, drop-of-length-le}
-use lib.Seq.{drop-drop, getD-drop}
-use Rattle.text.specs.Bytes.{begins, same}
-use Rattle.text.proofs.Laws.{begins-is}
-use Rattle.layout.specs.Rows.{Row, field, opens, closes, many, mark, back, ends, rowOf, keyOf, firstRow, rowsFrom, rowsOf}
+use lib.ListN.{length, take, drop, getD, length-append, drop-of-length-le}
+use lib.Seq.{getD-drop, getD-take, take-take}
+use Rattle.text.specs.Bytes.{begins, same, parts}
+use Rattle.text.proofs.Laws.{begins-is, parts-from, length-parts}
+use Rattle.layout.specs.Rows.{Row, field, opens, closes, many, mark, back, ends, rowOf, keyOf, firstRow, rowsOf}
 use Rattle.layout.specs.Layout.{fits, lacks, isSeen, against, beneath, look, onward, scan, stepOf, marked, behind, runOf}
 use Rattle.layout.specs.declared.Place.{Place}
 use Rattle.layout.specs.declared.Step.{Step}
@@ -22,26 +21,30 @@ use Rattle.layout.specs.declared.Look.the-variants.{Decided, Further}
 
 -- ---- the rows of a table's bytes
 
-length-rows : (n : ℕ) (t : List ℕ) → length (rowsFrom n t) ≡ n
-unfolding rowsFrom
-length-rows zero t = refl
-length-rows (suc n) t = ap suc (length-rows n (drop 16 t))
+drop-rows : (i : ℕ) (ps : List (List ℕ)) → drop i (map firstRow ps) ≡ map firstRow (drop i ps)
+drop-rows zero ps = refl
+drop-rows (suc i) [] = refl
+drop-rows (suc i) (p ∷ ps) = drop-rows i ps
 
-rows-next : (n i : ℕ) (t : List ℕ) → i < n → drop i (rowsFrom n t) ≡ firstRow (drop (i * 16) t) ∷ drop (suc i) (rowsFrom n t)
-unfolding rowsFrom
-rows-next zero i t h = absurd (not-suc-le-zero h)
-rows-next (suc n) zero t h = refl
-rows-next (suc n) (suc i) t h =
-    let e : 16 + i * 16 ≡ suc i * 16 = omega arith in
-    rows-next n i (drop 16 t) (le-of-suc-le-suc h) ∙ rw (drop-drop (i * 16) 16 t, e)
+-- a row is told by its sixteen bytes
+behind-three : (t : List ℕ) → drop 3 (take 16 t) ≡ take 13 (drop 3 t)
+behind-three [] = refl
+behind-three (a ∷ []) = refl
+behind-three (a ∷ b ∷ []) = refl
+behind-three (a ∷ b ∷ c ∷ t) = refl
+
+first-is : (t : List ℕ) → firstRow (take 16 t) ≡ firstRow t
+unfolding firstRow keyOf
+first-is t =
+    rw (getD-take 16 t 0 0 (omega arith), getD-take 16 t 1 0 (omega arith), getD-take 16 t 2 0 (omega arith), behind-three t, take-take (getD t 2 0 % 14) 13 (drop 3 t) (omega arith))
 
 pub row-next : (t : List ℕ) (i : ℕ) → i < length t / 16 → drop i (rowsOf t) ≡ firstRow (drop (i * 16) t) ∷ drop (i + 1) (rowsOf t)
 unfolding rowsOf
-row-next t i h = rows-next (length t / 16) i t h ∙ rw add-one
+row-next t i h = drop-rows i _ ∙ ap (map firstRow) (parts-from 16 (length t / 16) i t h) ∙ rw (first-is (drop (i * 16) t), drop-rows)
 
 pub row-none : (t : List ℕ) (i : ℕ) → length t / 16 ≤ i → drop i (rowsOf t) ≡ []
 unfolding rowsOf
-row-none t i h = drop-of-length-le (rowsFrom (length t / 16) t) {i = i} (rw (length-rows (length t / 16) t) h)
+row-none t i h = drop-rows i _ ∙ ap (map firstRow) (drop-of-length-le (parts 16 (length t / 16) t) {i = i} (rw length-parts h))
 
 -- the row whose bytes begin at a place
 pub row-at : (t : List ℕ) (at : ℕ) → firstRow (drop at t) ≡ rowOf (getD t at 0) (getD t (at + 1) 0) (keyOf (drop at t))

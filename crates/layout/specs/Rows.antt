@@ -1,9 +1,10 @@
 -- Document 01, "The slots, in order": the table of a message as rows, one below the other, and the bytes that a program
 -- holds of it.
-use Prim.Native.Nat.{ℕ, zero, suc, _/_, _%_}
+use Prim.Native.Nat.{ℕ, _/_, _%_}
 use mathlib.Core.Bool.{Bool, true, false}
-use mathlib.Core.List.{List, [], _∷_}
+use mathlib.Core.List.{List, [], _∷_, map}
 use lib.ListN.{length, take, drop, getD}
+use Rattle.text.specs.Bytes.{parts}
 
 -- a row of the table
 --   field   a line that is mandatory or not, its slot, and the text that it begins with: tag and qualifier
@@ -37,9 +38,5 @@ keyOf t = take (getD t 2 0 % 14) (drop 3 t)
 unfoldable pub firstRow : List ℕ → Row
 firstRow t = rowOf (getD t 0 0) (getD t 1 0) (keyOf t)
 
-unfoldable pub rowsFrom : ℕ → List ℕ → List Row
-rowsFrom zero t = []
-rowsFrom (suc n) t = firstRow t ∷ rowsFrom n (drop 16 t)
-
 unfoldable pub rowsOf : List ℕ → List Row
-rowsOf t = rowsFrom (length t / 16) t
+rowsOf t = map firstRow (parts 16 (length t / 16) t)
