@@ -1,0 +1,237 @@
+-- What a table has to be for its theorems, as tests that compute: every slot has its byte among the slots seen, no line fits
+-- two rows between which it has to choose, and the last line of all fits no other row.
+use Prim.Native.Nat.{ℕ}
+use mathlib.Core.Bool.{Bool, true, false, _&&_, _||_, not, cond}
+use mathlib.Core.List.{List, [], _∷_, _++_}
+use lib.Dec.{leb, ltb}
+use Rattle.text.specs.Bytes.{begins, same}
+use Rattle.sheets.specs.Trees.{Field, Member, Tree, last, line, block, group, chain}
+use Rattle.sheets.specs.Sheets.{Entry, edge, held, has}
+use Rattle.sheets.specs.Filled.{some, anyField, anyIn}
+use Rattle.sheets.specs.Plain.{Group, groupsOf}
+
+-- ---- slots: 1 to 31
+
+unfoldable pub goodSlot : ℕ → Bool
+goodSlot s = leb 1 s && ltb s 32
+
+unfoldable pub goodFields : List Field → Bool
+goodFields [] = true
+goodFields (f ∷ fs) = goodSlot (f .slot) && goodFields fs
+
+unfoldable pub goodMembers : List Member → Bool
+goodMembers [] = true
+goodMembers (m ∷ ms) = goodSlot (m .slot) && (goodFields (m .inside) && goodMembers ms)
+
+unfoldable pub goodTree : Tree → Bool
+goodTree (last c) = true
+goodTree (line f t) = goodSlot (f .slot) && goodTree t
+goodTree (block m o t u) = goodTree t && goodTree u
+goodTree (group n a o c ms t) = goodMembers ms && goodTree t
+
+-- ---- texts: no line fits two rows between which it has to choose
+
+-- what a line is held against: it begins with a text, or is a text
+pub data Fit : Type 0 where
+  starts : List ℕ → Fit
+  whole : List ℕ → Fit
+
+unfoldable pub fitsLine : Fit → List ℕ → Bool
+fitsLine (starts k) l = begins k l
+fitsLine (whole o) l = same o l
+
+-- a line could fit both
+unfoldable pub clash : Fit → Fit → Bool
+clash (starts k) (starts j) = begins k j || begins j k
+clash (starts k) (whole o) = begins k o
+clash (whole o) (starts k) = begins k o
+clash (whole o) (whole q) = same o q
+
+-- no line that fits a row of what is left of the block fits this too
+unfoldable pub avoids : Fit → Tree → Bool
+avoids a (last c) = not (clash a (whole c))
+avoids a (line f t) = not (clash a (starts (f .key))) && avoids a t
+avoids a (block m o t u) = not (clash a (whole o)) && avoids a u
+avoids a (group n b o c ms t) = not (clash a (whole o)) && avoids a t
+
+unfoldable pub noneOf : List ℕ → List Member → Bool
+noneOf k [] = true
+noneOf k (m ∷ ms) = not (clash (starts k) (starts (m .key))) && noneOf k ms
+
+unfoldable pub apartFields : List Field → List ℕ → Bool
+apartFields [] c = true
+apartFields (f ∷ fs) c = avoids (starts (f .key)) (chain fs c) && apartFields fs c
+
+-- the members are told apart by their first fields, and the last line is none of these
+unfoldable pub apartMembers : List ℕ → List Member → Bool
+apartMembers c [] = true
+apartMembers c (m ∷ ms) =
+    not (clash (whole c) (starts (m .key))) && (noneOf (m .key) ms && (apartFields (m .inside) c && apartMembers c ms))
+
+unfoldable pub apart : Tree → Bool
+apart (last c) = true
+apart (line f t) = avoids (starts (f .key)) t && apart t
+apart (block m o t u) = avoids (whole o) u && (apart t && apart u)
+apart (group n a o c ms t) = avoids (whole o) t && (apartMembers c ms && apart t)
+
+-- ---- the last line of all: no other row takes it
+
+unfoldable pub freeFields : List ℕ → List Field → List ℕ → Bool
+freeFields z [] c = not (same c z)
+freeFields z (f ∷ fs) c = not (begins (f .key) z) && freeFields z fs c
+
+unfoldable pub freeMembers : List ℕ → List ℕ → List Member → Bool
+freeMembers z c [] = true
+freeMembers z c (m ∷ ms) = not (begins (m .key) z) && (freeFields z (m .inside) c && freeMembers z c ms)
+
+-- what is left of a block, its last line too unless it is the last of all
+unfoldable pub free : List ℕ → Bool → Tree → Bool
+free z b (last c) = b || not (same c z)
+free z b (line f t) = not (begins (f .key) z) && free z b t
+free z b (block m o t u) = not (same o z) && (free z false t && free z b u)
+free z b (group n a o c ms t) = not (same o z) && (freeMembers z c ms && free z b t)
+
+-- ---- slots: what tells one of many blocks is no slot of a row before it
+
+-- the slots that may have come behind rows
+unfoldable pub withFields : List ℕ → List Field → List ℕ
+withFields slots [] = slots
+withFields slots (f ∷ fs) = withFields (f .slot ∷ slots) fs
+
+unfoldable pub withMembers : List ℕ → List Member → List ℕ
+withMembers slots [] = slots
+withMembers slots (m ∷ ms) = withMembers (withFields (m .slot ∷ slots) (m .inside)) ms
+
+unfoldable pub withTree : List ℕ → Tree → List ℕ
+withTree slots (last c) = slots
+withTree slots (line f t) = withTree (f .slot ∷ slots) t
+withTree slots (block m o t u) = withTree (withTree slots t) u
+withTree slots (group n a o c ms t) = withTree (withMembers slots ms) t
+
+unfoldable pub onceMembers : List ℕ → List Member → Bool
+onceMembers slots [] = true
+onceMembers slots (m ∷ ms) = not (has slots (m .slot)) && onceMembers (withFields (m .slot ∷ slots) (m .inside)) ms
+
+unfoldable pub once : List ℕ → Tree → Bool
+once slots (last c) = true
+once slots (line f t) = once (f .slot ∷ slots) t
+once slots (block m o t u) = once slots t && once (withTree slots t) u
+once slots (group n a o c ms t) = onceMembers slots ms && once (withMembers slots ms) t
+
+-- ---- values: in what stands, where each of many blocks must come, each has its first field's; and none has a field's without it
+
+unfoldable pub allMembers : (ℕ → List ℕ) → List Member → Bool
+allMembers value [] = true
+allMembers value (m ∷ ms) = some (value (m .slot)) && allMembers value ms
+
+unfoldable pub wholeMembers : (ℕ → List ℕ) → List Member → Bool
+wholeMembers value [] = true
+wholeMembers value (m ∷ ms) = (some (value (m .slot)) || not (anyField value (m .inside))) && wholeMembers value ms
+
+unfoldable pub complete : (ℕ → List ℕ) → Tree → Bool
+complete value (last c) = true
+complete value (line f t) = complete value t
+complete value (block m o t u) = (not (m || anyIn value t) || complete value t) && complete value u
+complete value (group n a o c ms t) = (not n || allMembers value ms) && (wholeMembers value ms && complete value t)
+
+-- ---- slots: each row has one of its own
+
+unfoldable pub fieldSlots : List Field → List ℕ
+fieldSlots [] = []
+fieldSlots (f ∷ fs) = f .slot ∷ fieldSlots fs
+
+unfoldable pub ownSlots : Member → List ℕ
+ownSlots m = m .slot ∷ fieldSlots (m .inside)
+
+unfoldable pub memberSlots : List Member → List ℕ
+memberSlots [] = []
+memberSlots (m ∷ ms) = ownSlots m ++ memberSlots ms
+
+unfoldable pub slotsOf : Tree → List ℕ
+slotsOf (last c) = []
+slotsOf (line f t) = f .slot ∷ slotsOf t
+slotsOf (block m o t u) = slotsOf t ++ slotsOf u
+slotsOf (group n a o c ms t) = memberSlots ms ++ slotsOf t
+
+unfoldable pub disjoint : List ℕ → List ℕ → Bool
+disjoint [] ys = true
+disjoint (x ∷ xs) ys = not (has ys x) && disjoint xs ys
+
+unfoldable pub distinct : List ℕ → Bool
+distinct [] = true
+distinct (x ∷ xs) = not (has xs x) && distinct xs
+
+unfoldable pub soleMembers : List Member → Bool
+soleMembers [] = true
+soleMembers (m ∷ ms) = distinct (ownSlots m) && (disjoint (ownSlots m) (memberSlots ms) && soleMembers ms)
+
+unfoldable pub sole : Tree → Bool
+sole (last c) = true
+sole (line f t) = not (has (slotsOf t) (f .slot)) && sole t
+sole (block m o t u) = disjoint (slotsOf t) (slotsOf u) && (sole t && sole u)
+sole (group n a o c ms t) = soleMembers ms && (disjoint (memberSlots ms) (slotsOf t) && sole t)
+
+-- ---- lines: the first and last line of many blocks are no other row's, and a block that need not stand is not empty
+
+unfoldable pub allFree : List Group → (List ℕ → Bool) → Bool
+allFree [] p = true
+allFree (g ∷ gs) p = p (g .opening) && (p (g .closing) && allFree gs p)
+
+-- the last line of one of them is not a line inside it
+unfoldable pub closedMembers : List ℕ → List Member → Bool
+closedMembers c [] = true
+closedMembers c (m ∷ ms) = not (begins (m .key) c) && (free c true (chain (m .inside) c) && closedMembers c ms)
+
+-- a block has a mandatory field, so that it is never empty
+unfoldable pub heavy : Tree → Bool
+heavy (last c) = false
+heavy (line f t) = f .must || heavy t
+heavy (block m o t u) = heavy u
+heavy (group n a o c ms t) = heavy t
+
+unfoldable pub tellable : Tree → Bool
+tellable (last c) = true
+tellable (line f t) = allFree (groupsOf t) (λ x. not (begins (f .key) x)) && tellable t
+tellable (block m o t u) =
+    (m || heavy t)
+    && (allFree (groupsOf t) (λ x. not (same o x) && free x false u)
+    && (allFree (groupsOf u) (λ x. not (same o x) && free x false t) && (tellable t && tellable u)))
+tellable (group n a o c ms t) =
+    (free o false t && free c false t)
+    && ((freeMembers o c ms && (closedMembers c ms && (not (same c o) && apartMembers c ms)))
+    && (allFree (groupsOf t) (λ x. not (same o x) && freeMembers x c ms) && tellable t))
+
+-- ---- no value of a sheet is empty
+
+unfoldable pub full : List Entry → Bool
+full [] = true
+full (edge o ∷ es) = full es
+full (held i k v ∷ es) = some v && full es
+
+-- ---- the slots that every sheet has
+
+unfoldable pub firstSlots : List Member → List ℕ
+firstSlots [] = []
+firstSlots (m ∷ ms) = m .slot ∷ firstSlots ms
+
+unfoldable pub mustSlots : Tree → List ℕ
+mustSlots (last c) = []
+mustSlots (line f t) = cond (f .must) (f .slot ∷ mustSlots t) (mustSlots t)
+mustSlots (block m o t u) = cond m (mustSlots t ++ mustSlots u) (mustSlots u)
+mustSlots (group n a o c ms t) = cond n (firstSlots ms ++ mustSlots t) (mustSlots t)
+
+-- ---- values: what stands because it must has one
+
+unfoldable pub solidFields : (ℕ → List ℕ) → List Field → Bool
+solidFields value [] = true
+solidFields value (f ∷ fs) = (not (f .must) || some (value (f .slot))) && solidFields value fs
+
+unfoldable pub solidMembers : (ℕ → List ℕ) → List Member → Bool
+solidMembers value [] = true
+solidMembers value (m ∷ ms) = solidFields value (m .inside) && solidMembers value ms
+
+unfoldable pub solid : (ℕ → List ℕ) → Tree → Bool
+solid value (last c) = true
+solid value (line f t) = (not (f .must) || some (value (f .slot))) && solid value t
+solid value (block m o t u) = (not (m || anyIn value t) || solid value t) && solid value u
+solid value (group n a o c ms t) = solidMembers value ms && solid value t

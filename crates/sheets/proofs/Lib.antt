@@ -1,0 +1,12 @@
+pub mod Small
+pub mod Checks
+pub mod Machine
+pub mod Walk
+pub mod Accepts
+pub mod Cuts
+pub mod Emits
+pub mod Once
+pub mod Order
+pub mod Musts
+pub mod Solid
+pub mod Ends

@@ -1,0 +1,4 @@
+pub mod Trees
+pub mod Sheets
+pub mod Filled
+pub mod Plain

@@ -1,0 +1,55 @@
+-- Document 01, "The slots, in order", once more: the rows of a table as the blocks that they make. A table is written as rows
+-- because a program walks rows; what stands inside what is seen better in a tree, and the two say the same.
+use Prim.Native.Nat.{ℕ}
+use mathlib.Core.Bool.{Bool}
+use mathlib.Core.List.{List, [], _∷_}
+use Rattle.layout.specs.Rows.{Row, field, opens, closes, many, mark, back, ends}
+
+-- a field: whether it is mandatory, its slot, and the text that its line begins with
+pub record Field : Type 0 where
+  pub must : Bool
+  pub slot : ℕ
+  pub key : List ℕ
+
+-- one of many blocks: the slot and the text of its first field, and the fields behind that
+pub record Member : Type 0 where
+  pub slot : ℕ
+  pub key : List ℕ
+  pub inside : List Field
+
+-- what is left of a block
+--   last    its last line
+--   line    a field, and what is left behind it
+--   block   a block, mandatory or not, by its first line and what stands in it, and what is left behind it
+--   group   many blocks in any order: whether each must come, whether one may open when all have come, their first line and
+--           their last line, which they are, and what is left behind them
+pub data Tree : Type 0 where
+  last : List ℕ → Tree
+  line : Field → Tree → Tree
+  block : Bool → List ℕ → Tree → Tree → Tree
+  group : Bool → Bool → List ℕ → List ℕ → List Member → Tree → Tree
+
+-- fields and then the last line
+unfoldable pub chain : List Field → List ℕ → Tree
+chain [] c = last c
+chain (f ∷ fs) c = line f (chain fs c)
+
+-- ---- the rows of a tree, in front of other rows
+
+unfoldable pub fieldRows : List Field → List Row → List Row
+fieldRows [] rows = rows
+fieldRows (f ∷ fs) rows = field (f .must) (f .slot) (f .key) ∷ fieldRows fs rows
+
+unfoldable pub memberRows : List ℕ → List Member → List Row → List Row
+memberRows c [] rows = ends ∷ rows
+memberRows c (m ∷ ms) rows = mark (m .slot) (m .key) ∷ fieldRows (m .inside) (back c ∷ memberRows c ms rows)
+
+unfoldable pub rowsIn : Tree → List Row → List Row
+rowsIn (last c) rows = closes c ∷ rows
+rowsIn (line f t) rows = field (f .must) (f .slot) (f .key) ∷ rowsIn t rows
+rowsIn (block m o t u) rows = opens m o ∷ rowsIn t (rowsIn u rows)
+rowsIn (group n a o c ms t) rows = many n a o ∷ memberRows c ms (rowsIn t rows)
+
+-- the table of a tree
+unfoldable pub tableOf : Tree → List Row
+tableOf t = rowsIn t []
