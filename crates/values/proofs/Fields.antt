@@ -1,0 +1,185 @@
+-- One field and its value tell each other, for each form: texts, code words, amounts, dates and moments. And a list of statements
+-- by their numbers, so that a statement of every slot is given slot by slot.
+-- Assumes nothing.
+use Prim.Native.Nat.{ℕ, zero, suc, _+_, _≤_, _<_}
+use mathlib.Core.Path.{_≡_, refl, sym, ap, _∙_}
+use mathlib.Core.Bool.{Bool, true, false, _&&_, _||_, cond, or-true, or-false}
+use mathlib.Core.List.{List, [], _∷_}
+use mathlib.Core.Logic.{_⊎_, inl, inr}
+use native.Mathlib.Nat.{add-zero, zero-add, add-suc, suc-add, not-suc-le-zero, le-of-suc-le-suc}
+use native.Mathlib.Omega.{arith}
+use lib.Dec.{leb, ltb, eqb}
+use lib.ListN.{length, getD}
+use borrow.Author.Tests.{leb-true, le-leb, ltb-true, lt-ltb, eqb-true, eqb-false}
+use Rattle.text.specs.Bytes.{same}
+use Rattle.text.specs.Classes.{allIn}
+use Rattle.text.specs.Texts.{contents, textOf, inForm as textForm}
+use Rattle.text.specs.declared.Text.{Text}
+use Rattle.text.proofs.Laws.{and-left, and-right, and-both, same-eq, contents-of, in-form-of, in-form-facts, length-contents}
+use Rattle.digits.specs.Numerals.{fixedOf}
+use Rattle.amount.specs.Amounts.{isAmount, tidy, amountRead, amountNumber, amountText, valueOf as meaning, inForm as amountForm}
+use Rattle.amount.specs.declared.AmountRead.{AmountRead}
+use Rattle.amount.proofs.Laws.{value-in-form, written-tidy}
+use Rattle.calendar.specs.Dates.{year, isDate, isTime, isMoment, dateRead, dateNumber, dateText, momentFrom, momentRead, momentNumber, momentText}
+use Rattle.calendar.specs.declared.Moment.{Moment}
+use Rattle.calendar.specs.declared.DateRead.{DateRead}
+use Rattle.calendar.specs.declared.MomentRead.{MomentRead}
+use Rattle.calendar.proofs.Laws.{date-back, moment-back, moment-round}
+use Rattle.forms.specs.Forms.{isCode, wordAt, isWord}
+use Rattle.trade.specs.Records.{amountOr0, dateOr0, momentOr0}
+use Rattle.values.specs.Writable.{prepForm, hold}
+
+-- ---- statements by their numbers
+
+-- a statement of each of n numbers from k on
+abbrev pub Each : (ℕ → Type 0) → ℕ → ℕ → Type 0
+Each P k zero = Unit
+Each P k (suc n) = P k × Each P (suc k) n
+
+-- one statement, and those of the numbers behind it
+infixr 20 _⨾_
+pub _⨾_ : {A B : Type 0} → A → B → A × B
+a ⨾ b = (a, b)
+
+from-each : (P : ℕ → Type 0) (k n i : ℕ) → Each P k n → i < n → P (k + i)
+from-each P k zero i all h = absurd (not-suc-le-zero h)
+from-each P k (suc n) zero all h = rw add-zero (all .0)
+from-each P k (suc n) (suc i) all h = rw (add-suc, ← suc-add) (from-each P (suc k) n i (all .1) (le-of-suc-le-suc h))
+
+pub each-at : (P : ℕ → Type 0) (n : ℕ) → Each P 0 n → (i : ℕ) → i < n → P i
+each-at P n all i h = rw zero-add at (from-each P 0 n i all h)
+
+-- tests that hold together hold each, and those that hold each hold together
+pub hold-at : (bs : List Bool) → hold bs ≡ true → (i : ℕ) → getD bs i true ≡ true
+unfolding hold
+hold-at [] e i = refl
+hold-at (b ∷ bs) e zero = and-left _ _ e
+hold-at (b ∷ bs) e (suc i) = hold-at bs (and-right b _ e) i
+
+pub hold-all : (bs : List Bool) → ((i : ℕ) → i < length bs → getD bs i true ≡ true) → hold bs ≡ true
+unfolding hold
+hold-all [] h = refl
+hold-all (b ∷ bs) h = and-both (h 0 (omega arith)) (hold-all bs (λ i l. h (suc i) (omega arith)))
+
+-- ---- texts
+
+pub code-most : (least most : ℕ) (v : List ℕ) → isCode least most v ≡ true → length v ≤ most
+unfolding isCode
+code-most least most v e = leb-true (length v) most (and-left _ _ (and-right (leb least (length v)) _ e))
+
+-- a value of some c is held as a text in form, and that text is written as the value
+pub code-text : (least most : ℕ) (v : List ℕ) → most ≤ 20 → isCode least most v ≡ true → (textForm least most (textOf v) ≡ true) × (contents (textOf v) ≡ v)
+unfolding isCode
+code-text least most v h e =
+    let n : length v ≤ most = code-most least most v e in
+    let short : length v ≤ 20 = omega arith in
+    (in-form-of v short least most ∙ e, contents-of v short)
+
+pub text-code : (least most : ℕ) (t : Text) → textForm least most t ≡ true → isCode least most (contents t) ≡ true
+unfolding isCode
+text-code least most t e =
+    let f = in-form-facts least most t e in
+    rw (length-contents least most t e, le-leb _ _ (f .2), le-leb _ _ (f .3), f .4)
+
+-- of a value that may be absent: none at all, or at least one c
+pub code-any : (least most : ℕ) (v : List ℕ) → isCode least most v ≡ true → isCode 0 most v ≡ true
+unfolding isCode
+code-any least most v e = and-both (le-leb 0 (length v) (omega arith)) (and-right (leb least (length v)) _ e)
+
+pub code-some : (most : ℕ) (v : List ℕ) → isCode 0 most v ≡ true → eqb (length v) 0 ≡ false → isCode 1 most v ≡ true
+unfolding isCode
+code-some most v e n = let z = eqb-false (length v) 0 n in and-both (le-leb 1 (length v) (omega arith)) (and-right (leb 0 (length v)) _ e)
+
+pub no-code : (most : ℕ) → isCode 0 most [] ≡ true
+unfolding isCode allIn
+no-code most = rw (le-leb 0 most (omega arith))
+
+-- ---- code words
+
+-- a word stands at its place
+pub word-at : (ws : List (List ℕ)) (v : List ℕ) → isWord ws v ≡ true → getD ws (wordAt ws v) [] ≡ v
+unfolding isWord wordAt
+word-at [] v e = let z : ⊥ = omega (arith, ltb-true 0 0 e) in absurd z
+word-at (w ∷ ws) v e = go (λ h. word-at ws v h) (same w v) refl e
+  where
+    go : (ltb (wordAt ws v) (length ws) ≡ true → getD ws (wordAt ws v) [] ≡ v) → (b : Bool) → same w v ≡ b
+        → ltb (cond b 0 (suc (wordAt ws v))) (suc (length ws)) ≡ true → getD (w ∷ ws) (cond b 0 (suc (wordAt ws v))) [] ≡ v
+    go ih true h l = same-eq w v h
+    go ih false h l = ih (lt-ltb (wordAt ws v) (length ws) (le-of-suc-le-suc (ltb-true (suc (wordAt ws v)) (suc (length ws)) l)))
+
+-- what a word stands for is written as the word, where each of its list is
+pub word-back : {T : Type 0} (ws : List (List ℕ)) (all : List T) (first : T) (spell : T → List ℕ)
+    → Each (λ n. spell (getD all n first) ≡ getD ws n []) 0 (length ws)
+    → (v : List ℕ) → isWord ws v ≡ true → spell (getD all (wordAt ws v) first) ≡ v
+unfolding isWord
+word-back ws all first spell each v e =
+    each-at (λ n. spell (getD all n first) ≡ getD ws n []) (length ws) each (wordAt ws v) (ltb-true _ _ e) ∙ word-at ws v e
+
+-- ---- amounts, dates and moments: what is read from a value that gets 0
+
+pub amount-held : (v : List ℕ) → amountNumber (amountRead v) ≡ 0
+    → (amountForm (amountOr0 (amountRead v)) ≡ true) × (amountText (amountOr0 (amountRead v)) ≡ tidy v)
+unfolding amountRead
+amount-held v e = go (isAmount v) refl e
+  where
+    go : (b : Bool) → isAmount v ≡ b → amountNumber (cond b (AmountRead.Good (meaning v)) AmountRead.Wrong) ≡ 0
+        → (amountForm (amountOr0 (cond b (AmountRead.Good (meaning v)) AmountRead.Wrong)) ≡ true)
+        × (amountText (amountOr0 (cond b (AmountRead.Good (meaning v)) AmountRead.Wrong)) ≡ tidy v)
+    go true t h = (value-in-form v t, written-tidy v t)
+    go false t h = let z : ⊥ = omega arith in absurd z
+
+pub date-held : (v : List ℕ) → dateNumber (dateRead v) ≡ 0
+    → (isDate (dateOr0 (dateRead v) .0) ≡ true) × (dateText (dateOr0 (dateRead v)) ≡ v)
+date-held v e = go (dateRead v) refl e
+  where
+    go : (r : DateRead) → dateRead v ≡ r → dateNumber r ≡ 0 → (isDate (dateOr0 r .0) ≡ true) × (dateText (dateOr0 r) ≡ v)
+    go (DateRead.Good d) t h = date-back v d t
+    go DateRead.Wrong t h = let z : ⊥ = omega arith in absurd z
+
+pub moment-held : (v : List ℕ) → momentNumber (momentRead v) ≡ 0
+    → (isMoment (momentOr0 (momentRead v)) ≡ true) × (momentText (momentOr0 (momentRead v)) ≡ v)
+moment-held v e = go (momentRead v) refl e
+  where
+    go : (r : MomentRead) → momentRead v ≡ r → momentNumber r ≡ 0 → (isMoment (momentOr0 r) ≡ true) × (momentText (momentOr0 r) ≡ v)
+    go (MomentRead.Good m) t h = moment-back v m t
+    go MomentRead.Wrong t h = let z : ⊥ = omega arith in absurd z
+
+-- ---- PREP: absent is date 0 and time 0, and is written as nothing
+
+pub no-moment : (m : Moment) → isMoment m ≡ false → momentText m ≡ []
+unfolding momentText
+no-moment m e = rw e
+
+abbrev moment : ℕ → ℕ → Moment
+moment date time = record { date = record { 0 = date }; time = record { 0 = time } }
+
+nothing-read : momentOr0 (momentRead []) ≡ moment 0 0
+unfolding momentRead momentFrom fixedOf
+nothing-read = refl
+
+pub prep-back : (m : Moment) → prepForm m ≡ true → momentOr0 (momentRead (momentText m)) ≡ m
+unfolding prepForm
+prep-back m e = go (isMoment m) refl e
+  where
+    go : (b : Bool) → isMoment m ≡ b → ((eqb (m .date .0) 0 && eqb (m .time .0) 0) || b) ≡ true → momentOr0 (momentRead (momentText m)) ≡ m
+    go true t h = ap momentOr0 (moment-round m t)
+    go false t h =
+        let z : (eqb (m .date .0) 0 && eqb (m .time .0) 0) ≡ true = rw or-false at h in
+        let d : m .date .0 ≡ 0 = eqb-true _ _ (and-left _ _ z) in
+        let n : m .time .0 ≡ 0 = eqb-true _ _ (and-right (eqb (m .date .0) 0) _ z) in
+        ap (λ (s : List ℕ). momentOr0 (momentRead s)) (no-moment m t) ∙ nothing-read
+        ∙ ap (λ (k : ℕ). moment k 0) (sym d) ∙ ap (λ (k : ℕ). moment (m .date .0) k) (sym n)
+
+-- what is in form is written as nothing, or as a moment
+pub prep-number : (m : Moment) → prepForm m ≡ true → (momentText m ≡ []) ⊎ (momentNumber (momentRead (momentText m)) ≡ 0)
+prep-number m e = go (isMoment m) refl
+  where
+    go : (b : Bool) → isMoment m ≡ b → (momentText m ≡ []) ⊎ (momentNumber (momentRead (momentText m)) ≡ 0)
+    go true t = inr (ap momentNumber (moment-round m t))
+    go false t = inl (no-moment m t)
+
+pub prep-held : (v : List ℕ) → (v ≡ []) ⊎ (momentNumber (momentRead v) ≡ 0)
+    → (prepForm (momentOr0 (momentRead v)) ≡ true) × (momentText (momentOr0 (momentRead v)) ≡ v)
+unfolding prepForm momentRead momentFrom momentText fixedOf isMoment isDate isTime year
+prep-held v (inl e) = rw e (refl, refl)
+prep-held v (inr e) = let h = moment-held v e in (rw (h .0) (or-true (eqb (momentOr0 (momentRead v) .date .0) 0 && eqb (momentOr0 (momentRead v) .time .0) 0)), h .1)

@@ -1,0 +1,108 @@
+-- Document 01, "The slots, in order", and "Plain form, and the record": the value that a record has for each slot, as it stands
+-- behind the slot's fixed text; nothing where the record has none.
+use Prim.Native.Nat.{ℕ}
+use mathlib.Core.Bool.{Bool, false, _||_, cond}
+use mathlib.Core.List.{List, [], _∷_, _++_}
+use lib.Dec.{eqb}
+use lib.ListN.{getD}
+use Rattle.text.specs.Bytes.{bytes}
+use Rattle.text.specs.Texts.{contents}
+use Rattle.text.specs.declared.Text.{Text}
+use Rattle.digits.specs.Numerals.{digits}
+use Rattle.amount.specs.Amounts.{amountText, tidy}
+use Rattle.calendar.specs.Dates.{dateText, momentText}
+use Rattle.trade.specs.Narrative.{services}
+use Rattle.trade.specs.Records.{kinds, sides}
+use Rattle.trade.specs.declared.Kind.{Kind}
+use Rattle.trade.specs.declared.Side.{Side}
+use Rattle.trade.specs.declared.Service.{Service}
+use Rattle.trade.specs.declared.Period.{Period}
+use Rattle.trade.specs.declared.Trade.{Trade}
+use Rattle.kinds.specs.Kinds.{present, functionOf}
+
+-- ---- code words, from the lists that they are read by
+
+abbrev pub word : List (List ℕ) → ℕ → List ℕ
+word ws place = getD ws place []
+
+unfoldable pub kindWord : Kind → List ℕ
+kindWord Kind.Inst = word kinds 0
+kindWord Kind.Canc = word kinds 1
+kindWord Kind.Mdfc = word kinds 2
+kindWord Kind.Tddk = word kinds 3
+
+unfoldable pub sideWord : Side → List ℕ
+sideWord Side.Buyi = word sides 0
+sideWord Side.Sell = word sides 1
+
+unfoldable pub serviceWord : Service → List ℕ
+serviceWord Service.Sbod = word services 0
+serviceWord Service.Tftd = word services 1
+serviceWord Service.Stip = word services 2
+
+-- ---- the narrative behind `//GSCC`
+
+-- GUPP 0 is present
+unfoldable pub periodText : Period → List ℕ
+periodText Period.Absent = []
+periodText (Period.Days n) = bytes "/GUPP" ++ digits 1 n
+
+unfoldable pub reasonText : Text → List ℕ
+reasonText reason = cond (present reason) (bytes "/DKRS" ++ contents reason) []
+
+unfoldable pub narrative : Service → Period → Text → List ℕ
+narrative service period reason = bytes "/TDSV" ++ (serviceWord service ++ (periodText period ++ reasonText reason))
+
+-- ---- the value of each slot, numbered as document 01 numbers its fields; 28 is the password and 29 the sender. What is absent
+-- has no bytes, nor has a number that names no slot
+
+unfoldable pub values : Trade → List (List ℕ)
+values t =
+    []
+    -- 1 to 6: SEME, 23G, PREP, MAST, PREV, LIST
+    ∷ contents (t .seme)
+    ∷ functionOf (t .kind)
+    ∷ momentText (t .prep)
+    ∷ contents (t .mast)
+    ∷ contents (t .prev)
+    ∷ contents (t .list)
+    -- 7 to 11: TRAD, SETT, DEAL, BUSE, PROC
+    ∷ momentText (t .trad)
+    ∷ dateText (t .sett)
+    ∷ amountText (t .price .0)
+    ∷ sideWord (t .side)
+    ∷ kindWord (t .kind)
+    -- 12 to 17: the code, the contra reference and the trader of the buyer, and of the seller
+    ∷ contents (t .buyer .code)
+    ∷ contents (t .buyer .reference)
+    ∷ contents (t .buyer .trader)
+    ∷ contents (t .seller .code)
+    ∷ contents (t .seller .reference)
+    ∷ contents (t .seller .trader)
+    -- 18 to 21: par, CUSIP, POOL, the narrative
+    ∷ amountText (t .par .0)
+    ∷ contents (t .cusip)
+    ∷ contents (t .pool)
+    ∷ narrative (t .service) (t .period) (t .reason)
+    -- 22 to 29: no slots, and then the password and the sender
+    ∷ [] ∷ [] ∷ [] ∷ [] ∷ [] ∷ []
+    ∷ contents (t .password)
+    ∷ contents (t .sender)
+    ∷ []
+
+unfoldable pub valueOf : Trade → ℕ → List ℕ
+valueOf t slot = getD (values t) slot []
+
+-- ---- what the layout makes optional: PREP, MAST, PREV, LIST, of each party the contra reference and the trader, and POOL
+
+abbrev pub isAny : List ℕ → ℕ → Bool
+isAny [] slot = false
+isAny (n ∷ ns) slot = eqb slot n || isAny ns slot
+
+unfoldable pub optional : ℕ → Bool
+optional slot = isAny (3 ∷ 4 ∷ 5 ∷ 6 ∷ 13 ∷ 14 ∷ 16 ∷ 17 ∷ 20 ∷ []) slot
+
+-- ---- the plain form of a value: the price and the par, which are amounts, are tidied, and nothing else changes
+
+unfoldable pub tidied : ℕ → List ℕ → List ℕ
+tidied slot v = cond (isAny (9 ∷ 18 ∷ []) slot) (tidy v) v
