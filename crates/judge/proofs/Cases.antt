@@ -1,0 +1,21 @@
+-- Each record of the table gets the number beside it, by computation.
+-- Assumes nothing.
+use mathlib.Core.Path.{refl}
+use Rattle.text.specs.Bytes.{bytes}
+use Rattle.text.specs.Classes.{isBetween, isDigit, isUpper, isC, inClass, allIn}
+use Rattle.text.specs.Texts.{contents, textOf, inForm as textForm}
+use Rattle.amount.specs.Amounts.{inForm as amountForm}
+use Rattle.calendar.specs.Dates.{year, month, day, leap, lengths, monthLength, isDate, isTime, isMoment, earlier}
+use Rattle.digits.specs.Numerals.{digits}
+use Rattle.lines.specs.Verdicts.{refused, pass, then}
+use Rattle.trade.specs.Records.{nobody, never, nought, blankTrade}
+use Rattle.kinds.specs.Kinds.{other, own, contra, stray, lacksField, tddkOnly, tddkNever, hasForbidden, when, recordPass}
+use Rattle.values.specs.Values.{kindWord, sideWord, serviceWord, periodText, reasonText, narrative, values, valueOf}
+use Rattle.values.specs.Writable.{prepForm, periodForm, reasonForm, tests, hold, inForm}
+use Rattle.values.specs.Cases.{b}
+use Rattle.judge.specs.Judging.{judgeOf}
+use Rattle.judge.specs.Cases.{trade, cases, Answered}
+
+pub answered : Answered
+unfolding b trade cases bytes isBetween isDigit isUpper isC inClass allIn contents textOf textForm amountForm year month day leap lengths monthLength isDate isTime isMoment earlier digits refused pass then nobody never nought blankTrade other own contra stray lacksField tddkOnly tddkNever hasForbidden when recordPass kindWord sideWord serviceWord periodText reasonText narrative values valueOf prepForm periodForm reasonForm tests hold inForm judgeOf
+answered = refl

@@ -1,0 +1,71 @@
+-- The mathematics of the crate's functions: tests by stretches of their list, and the first of the numbers.
+-- Assumes nothing.
+use Prim.Native.Nat.{ℕ, zero, suc, _+_, _≤_, _<_}
+use mathlib.Core.Path.{_≡_, refl, sym, ap, _∙_}
+use mathlib.Core.Bool.{Bool, true, false, _&&_, not, and-assoc}
+use mathlib.Core.List.{List, [], _∷_}
+use native.Mathlib.Omega.{arith}
+use lib.Dec.{ltb}
+use lib.ListN.{length, take, drop}
+use lib.Seq.{drop-drop}
+use borrow.Author.Tests.{lt-ltb, le-ltb}
+use Rattle.trade.specs.declared.Trade.{Trade}
+use Rattle.lines.specs.Verdicts.{refused, pass, then}
+use Rattle.lines.specs.declared.Verdict.{Verdict}
+use Rattle.lines.proofs.Laws.{stop, go}
+use Rattle.kinds.specs.Kinds.{when, recordPass}
+use Rattle.kinds.proofs.Turns.{stops, goes-on, broken, kept as passed}
+use Rattle.values.specs.Values.{valueOf}
+use Rattle.values.specs.Writable.{tests, hold, inForm}
+use Rattle.judge.specs.Judging.{judgeOf}
+
+-- ---- the tests of a record, a stretch of their list at a time
+
+hold-split : (k : ℕ) (bs : List Bool) → hold bs ≡ (hold (take k bs) && hold (drop k bs))
+unfolding hold
+hold-split zero bs = refl
+hold-split (suc k) [] = refl
+hold-split (suc k) (b ∷ bs) = rw (hold-split k bs) (sym (and-assoc b (hold (take k bs)) (hold (drop k bs))))
+
+hold-from : (k j : ℕ) (bs : List Bool) → hold (drop j bs) ≡ (hold (take k (drop j bs)) && hold (drop (j + k) bs))
+hold-from k j bs = hold-split k (drop j bs) ∙ ap (λ (l : List Bool). hold (take k (drop j bs)) && hold l) (drop-drop k j bs)
+
+pub formed : (t : Trade) {a b c d e f : Bool} → a ≡ hold (take 7 (tests t)) → b ≡ hold (take 5 (drop 7 (tests t)))
+    → c ≡ hold (take 3 (drop 12 (tests t))) → d ≡ hold (take 3 (drop 15 (tests t)))
+    → e ≡ hold (take 4 (drop 18 (tests t))) → f ≡ hold (drop 22 (tests t))
+    → (a && (b && (c && (d && (e && f))))) ≡ inForm t
+unfolding inForm
+formed t p q r s u v =
+    let l : List Bool = tests t in
+    rw (p, q, r, s, u, v) (sym (hold-split 7 l ∙ rw (hold-from 5 7 l, hold-from 3 12 l, hold-from 3 15 l, hold-from 4 18 l)))
+
+-- ---- the first of the numbers
+
+module _ (t : Trade) where
+  -- what comes behind 18, and behind the rules of the kinds
+  unfoldable narrow : Verdict
+  narrow = when (ltb 35 (4 + length (valueOf t 21))) 20
+
+  pub out-of-form : inForm t ≡ false → 18 ≡ judgeOf t
+  unfolding judgeOf refused
+  out-of-form e = ap (λ (x : Verdict). x .number) (stops (not (inForm t)) 18 (then (recordPass t) (when (ltb 35 (4 + length (valueOf t 21))) 20)) (ap not e) refl)
+
+  module _ (form : inForm t ≡ true) (v : Verdict) (is : v ≡ recordPass t) where
+    rules : then v narrow .number ≡ judgeOf t
+    unfolding judgeOf narrow
+    rules = ap (λ (x : Verdict). x .number) (ap (λ (p : Verdict). then p narrow) is ∙ goes-on (not (inForm t)) 18 (then (recordPass t) narrow) (ap not form))
+
+    pub rule-broken : (v .number ≡ 0 → ⊥) → v .number ≡ judgeOf t
+    rule-broken h = ap (λ (x : Verdict). x .number) (stop v v narrow refl h) ∙ rules
+
+    module _ (kept : v .number ≡ 0) (n : ℕ) (long : n ≡ length (valueOf t 21)) where
+      last : narrow .number ≡ judgeOf t
+      last = ap (λ (x : Verdict). x .number) (go v v narrow refl kept) ∙ rules
+
+      pub too-long : 31 < n → 20 ≡ judgeOf t
+      unfolding narrow refused
+      too-long h = ap (λ (x : Verdict). x .number) (broken (ltb 35 (4 + length (valueOf t 21))) 20 (lt-ltb 35 (4 + length (valueOf t 21)) (omega arith))) ∙ last
+
+      pub nothing-wrong : n ≤ 31 → 0 ≡ judgeOf t
+      unfolding narrow pass refused
+      nothing-wrong h = ap (λ (x : Verdict). x .number) (passed (ltb 35 (4 + length (valueOf t 21))) 20 (le-ltb 35 (4 + length (valueOf t 21)) (omega arith))) ∙ last

@@ -1,0 +1,37 @@
+-- `judge::form::security_form` meets its contract. Assumes nothing.
+use mathlib.Core.Bool.{_&&_, and-true}
+use Rattle.values.specs.Writable.{tests, hold}
+use borrow.Author.Needs.{needs}
+use Rattle.judge.proofs.form.security_form.Statement.{statement}
+use Rattle.judge.proofs.form.security_form.Tie as tie
+
+in-form-requires : tie.Need-in-form-requires
+in-form-requires c κs = search needs
+
+in-form-requires-2 : tie.Need-in-form-requires-2
+in-form-requires-2 c κs = search needs
+
+in-form-requires-3 : tie.Need-in-form-requires-3
+in-form-requires-3 c κs = search needs
+
+period-form-requires : tie.Need-period-form-requires
+period-form-requires c κs = search needs
+
+reason-form-requires : tie.Need-reason-form-requires
+reason-form-requires c κs = search needs
+
+returns : tie.Need-returns
+unfolding tests hold
+returns c =
+    rw (← c .before .before .before .before .in-form .ensures, ← c .before .before .before .in-form2 .ensures, ← c .before .before .in-form3 .ensures, ← c .before .period-form .ensures, ← c .reason-form .ensures, and-true (c .before .period-form .result && c .reason-form .result))
+
+pub security-form-spec : {M : Type 1} → statement M
+security-form-spec =
+    tie.close
+    (tie.spec
+    in-form-requires
+    in-form-requires-2
+    in-form-requires-3
+    period-form-requires
+    reason-form-requires
+    returns)
