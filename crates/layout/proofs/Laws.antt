@@ -10,9 +10,10 @@ use native.Mathlib.Omega.{arith}
 use lib.Dec.{eqb}
 use lib.ListN.{length, take, drop, getD, length-append, drop-of-length-le}
 use lib.Seq.{getD-drop, getD-take, take-take}
+use borrow.Author.Tests.{lt-ltb, le-ltb}
 use Rattle.text.specs.Bytes.{begins, same, parts}
 use Rattle.text.proofs.Laws.{begins-is, parts-from, length-parts}
-use Rattle.layout.specs.Rows.{Row, field, opens, closes, many, mark, back, ends, rowOf, keyOf, firstRow, rowsOf}
+use Rattle.layout.specs.Rows.{Row, field, opens, closes, many, mark, back, ends, rowOf, keyOf, textAt, firstRow, rowsOf}
 use Rattle.layout.specs.Layout.{fits, lacks, isSeen, against, beneath, look, onward, scan, stepOf, marked, behind, runOf}
 use Rattle.layout.specs.declared.Place.{Place}
 use Rattle.layout.specs.declared.Step.{Step}
@@ -50,6 +51,15 @@ row-none t i h = drop-rows i _ ∙ ap (map firstRow) (drop-of-length-le (parts 1
 pub row-at : (t : List ℕ) (at : ℕ) → firstRow (drop at t) ≡ rowOf (getD t at 0) (getD t (at + 1) 0) (keyOf (drop at t))
 unfolding firstRow
 row-at t at = rw (getD-drop at t 0 0, getD-drop at t 1 0, add-zero at)
+
+-- the text of a row, and of no row
+pub text-at : (t : List ℕ) (row : ℕ) → row < length t / 16 → textAt t row ≡ keyOf (drop (row * 16) t)
+unfolding textAt
+text-at t row h = rw (lt-ltb row (length t / 16) h)
+
+pub text-none : (t : List ℕ) (row : ℕ) → length t / 16 ≤ row → textAt t row ≡ []
+unfolding textAt
+text-none t row h = rw (le-ltb row (length t / 16) h)
 
 -- ---- a run, one line further
 

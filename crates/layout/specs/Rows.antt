@@ -1,8 +1,9 @@
 -- Document 01, "The slots, in order": the table of a message as rows, one below the other, and the bytes that a program
 -- holds of it.
-use Prim.Native.Nat.{ℕ, _/_, _%_}
-use mathlib.Core.Bool.{Bool, true, false}
+use Prim.Native.Nat.{ℕ, _*_, _/_, _%_}
+use mathlib.Core.Bool.{Bool, true, false, cond}
 use mathlib.Core.List.{List, [], _∷_, map}
+use lib.Dec.{ltb}
 use lib.ListN.{length, take, drop, getD}
 use Rattle.text.specs.Bytes.{parts}
 
@@ -34,6 +35,10 @@ rowOf kind slot key =
 -- a length past the thirteen bytes of a row's text counts by its rest
 unfoldable pub keyOf : List ℕ → List ℕ
 keyOf t = take (getD t 2 0 % 14) (drop 3 t)
+
+-- the text of a row by its place; behind the last row there is none
+unfoldable pub textAt : List ℕ → ℕ → List ℕ
+textAt t row = cond (ltb row (length t / 16)) (keyOf (drop (row * 16) t)) []
 
 unfoldable pub firstRow : List ℕ → Row
 firstRow t = rowOf (getD t 0 0) (getD t 1 0) (keyOf t)

@@ -8,7 +8,7 @@ ghost use lib.ListN.{length, drop};
 ghost use mathlib.Core.Bool.{true, cond, _&&_, _||_};
 ghost use mathlib.Core.List.{[]};
 ghost use Rattle.text.specs.Bytes.{begins, same};
-ghost use Rattle.layout.specs.Rows.{keyOf, firstRow, rowsOf, field, opens};
+ghost use Rattle.layout.specs.Rows.{keyOf, textAt, firstRow, rowsOf, field, opens};
 ghost use Rattle.layout.specs.Layout.{wrong, moves, takes, fits, enters, isSeen, lacks, beneath, against, look, stepOf};
 
 // The numbers of document 01: the line fits no slot from here on, and a mandatory one was passed over.
@@ -47,6 +47,17 @@ fn key(table: &[u8], row: usize) -> &[u8]
     let len = (table[at + 2] % 14) as usize;
     let from = at + 3;
     &table[from..from + len]
+}
+
+// The text of a row, for who walks the table on his own; behind the last row there is none.
+pub fn row_text(table: &[u8], row: usize) -> &[u8]
+    ensures { λ r. ⌜ now r ≡ textAt (now (table .entry)) row ⌝ }
+{
+    if row < table.len() / 16 {
+        key(table, row)
+    } else {
+        &table[..0]
+    }
 }
 
 // A line is the first or the last of a block: nothing may follow the block's name.

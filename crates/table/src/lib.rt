@@ -10,7 +10,7 @@ ghost use Rattle.table.specs.Table.{table, slotOf, fixedOf};
 ghost use Rattle.table.specs.Values.{numberOf};
 
 // Sixteen bytes a row: its kind, its slot, the length of its text, the text.
-const TABLE: [u8; 624] = *b"\x03\x00\x09:16R:GENL    \
+pub const TABLE: [u8; 624] = *b"\x03\x00\x09:16R:GENL    \
     \x01\x01\x0a:20C::SEME   \
     \x01\x02\x05:23G:        \
     \x02\x03\x0a:98C::PREP   \
@@ -51,7 +51,7 @@ const TABLE: [u8; 624] = *b"\x03\x00\x09:16R:GENL    \
     \x05\x00\x01-            ";
 
 // Thirty-two bytes a slot: its form, least and most width, the length of the fixed text, the fixed text, and its words.
-const SLOTS: [u8; 1024] = *b"\x00\x00\x00\x00            ................\
+pub const SLOTS: [u8; 1024] = *b"\x00\x00\x00\x00            ................\
     \x01\x01\x10\x02//          ................\
     \x02\x00\x02\x00            NEWMCANC........\
     \x05\x00\x00\x02//          ................\

@@ -1,0 +1,19 @@
+-- `message::rows::lower` meets its contract. Assumes nothing.
+use Rattle.message.proofs.Turns.{lower-is}
+use Rattle.message.specs.Walks.{lower}
+use borrow.Author.Needs.{needs}
+use Rattle.message.proofs.rows.lower.Statement.{statement}
+use Rattle.message.proofs.rows.lower.Tie as tie
+
+sub-result : tie.Need-sub-result
+sub-result c = search needs
+
+returns : tie.Need-returns
+unfolding lower
+returns c = rw (c .if1 .taken)
+
+returns-2 : tie.Need-returns-2
+returns-2 c = lower-is _ (c .if1 .left)
+
+pub lower-spec : {M : Type 1} → statement M
+lower-spec = tie.close (tie.spec sub-result returns returns-2)

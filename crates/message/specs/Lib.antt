@@ -1,0 +1,5 @@
+pub mod Messages
+pub mod Writing
+pub mod Walks
+pub mod Cases
+pub mod Plain
