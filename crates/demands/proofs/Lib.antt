@@ -1,0 +1,12 @@
+pub mod Joins
+pub mod Nests
+pub mod Pieces
+pub mod Codes
+pub mod Said
+pub mod Holds
+pub mod Accepting
+pub mod Plainly
+pub mod Writes
+pub mod Whole
+pub mod Round
+pub mod Demands
