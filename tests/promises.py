@@ -2,7 +2,8 @@
 """The form of the promises.
 
 Every `pub fn` of every crate's sources has an `ensures` and no `requires`, but for the functions that docs/PROMISES.md lists
-under "## Functions with a requires", each with its reason; and every one of them is named in that file.
+under "## Functions with a requires", each with its reason; and every one of them is named in that file. So is every must-fail
+edit, by its name.
 
 Usage: promises.py ROOT           check the repository at ROOT
        promises.py --self-test    check this program on a made-up source
@@ -108,6 +109,11 @@ def violations(found, page):
     return said
 
 
+def unnamed(edits, page):
+    """A line for each edit, (file, name), that the page does not name."""
+    return [f'{file}: docs/PROMISES.md does not name {name}' for file, name in edits if f'`{name}`' not in page]
+
+
 def check(root):
     found = []
     for path in sorted(root.glob('crates/*/src/**/*.rt')):
@@ -116,7 +122,9 @@ def check(root):
         found += [(file, *function) for function in functions(file.parts[1], source)]
     page = root / 'docs' / 'PROMISES.md'
     if page.is_file():
-        said = violations(found, page.read_text(encoding='utf-8'))
+        text = page.read_text(encoding='utf-8')
+        edits = [(path.relative_to(root), path.stem) for path in sorted(root.glob('crates/*/must-fail/*.edit'))]
+        said = violations(found, text) + unnamed(edits, text)
     else:
         print('docs/PROMISES.md is not there: that it names every function is passed over')
         said = violations(found, None)
@@ -195,6 +203,7 @@ def self_test():
             'docs/PROMISES.md: c::gone is listed, and there is no such public function',
         ]),
     ]
+    cases.append((unnamed([('a', 'told'), ('b', 'kept')], '`told` and kept'), ['b: docs/PROMISES.md does not name kept']))
     wrong = [(got, wanted) for got, wanted in cases if got != wanted]
     for got, wanted in wrong:
         print(f'self-test: got {got}\n     expected {wanted}')
