@@ -112,7 +112,7 @@ module _ (here : Place) (seen line : List ℕ) (deep : ℕ) (unmarked passed : B
 
   beneath-bound : (r : Row) → Good (beneath here line deep unmarked passed r)
   unfolding Bound beneath
-  beneath-bound (field m s k) = omega arith
+  beneath-bound (field m s k) = of-both Good (unmarked && (eqb deep 1 && begins k line)) (λ e. omega arith) (λ e. omega arith)
   beneath-bound (opens m o) = omega arith
   beneath-bound (closes c) = omega arith
   beneath-bound (many n a o) = omega arith

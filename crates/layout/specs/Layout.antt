@@ -55,9 +55,11 @@ lacks seen (mark s k ∷ rows) = not (isSeen seen s) || lacks seen rows
 lacks seen (back c ∷ rows) = lacks seen rows
 lacks seen (ends ∷ rows) = false
 
--- a row inside a block that is being passed over
+-- a row inside a block that is being passed over. A line that stands first in one of many blocks and is a later one of its
+-- fields, or its last line, has passed over the first field, which is mandatory
 unfoldable pub beneath : Place → List ℕ → ℕ → Bool → Bool → Row → Look
-beneath here line deep unmarked passed (field m s k) = Further deep unmarked passed
+beneath here line deep unmarked passed (field m s k) =
+    cond (unmarked && (eqb deep 1 && begins k line)) (Decided (wrong here 9)) (Further deep unmarked passed)
 beneath here line deep unmarked passed (opens m o) = Further (deep + 1) unmarked passed
 beneath here line deep unmarked passed (closes c) = Further (deep - 1) unmarked passed
 beneath here line deep unmarked passed (many n a o) = Further (deep + 1) unmarked passed

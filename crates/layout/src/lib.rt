@@ -285,6 +285,39 @@ fn closes_bare(key: &[u8], line: &[u8], deep: usize, unmarked: bool) -> bool
     }
 }
 
+// A line is a later field of one of many blocks that it stands first in, where no mark was met.
+fn begins_bare(key: &[u8], line: &[u8], deep: usize, unmarked: bool) -> bool
+    ensures { λ r. ⌜ r ≡ (unmarked && (eqb deep 1 && begins (now (key .entry)) (now (line .entry)))) ⌝ }
+{
+    if unmarked {
+        if deep == 1 {
+            text::begins_with(line, key)
+        } else {
+            false
+        }
+    } else {
+        false
+    }
+}
+
+// A line against a field's row inside a block that is being passed over.
+fn look_inside(
+    key: &[u8],
+    line: &[u8],
+    here: Place,
+    deep: usize,
+    unmarked: bool,
+    passed: bool,
+) -> Look
+    ensures { λ r. ⌜ r ≡ cond (unmarked && (eqb deep 1 && begins (now (key .entry)) (now (line .entry)))) (Look.Decided (wrong here 9)) (Look.Further deep unmarked passed) ⌝ }
+{
+    if begins_bare(key, line, deep, unmarked) {
+        Look::Decided(refuse(here, PASSED_OVER))
+    } else {
+        Look::Further(deep, unmarked, passed)
+    }
+}
+
 // A line against a row inside a block that is being passed over.
 fn look_beneath(
     table: &[u8],
@@ -300,8 +333,8 @@ fn look_beneath(
 {
     let kind = table[row * 16];
     match kind {
-        1 => Look::Further(deep, unmarked, passed),
-        2 => Look::Further(deep, unmarked, passed),
+        1 => look_inside(key(table, row), line, here, deep, unmarked, passed),
+        2 => look_inside(key(table, row), line, here, deep, unmarked, passed),
         3 => Look::Further(deep + 1, unmarked, passed),
         4 => Look::Further(deep + 1, unmarked, passed),
         5 => Look::Further(deep - 1, unmarked, passed),

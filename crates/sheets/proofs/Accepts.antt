@@ -14,9 +14,9 @@ use Rattle.text.proofs.Laws.{and-left, and-right, and-both, same-refl, same-eq,
 use Rattle.layout.specs.Layout.{Taken, Run, refusedAt, taken, withTaken, layoutOf}
 use Rattle.sheets.specs.Trees.{Field, Member, Tree, last, line, block, group, chain, tableOf}
 use Rattle.sheets.specs.Sheets.{Entry, edge, held, lineOf, linesIn, takenIn, come, has, lacking, Among, front, later, Laid, shut, given, absent, opened, passed, member, done, Sheet}
-use Rattle.sheets.proofs.Small.{is-false, or-true, drop-append}
-use Rattle.sheets.proofs.Checks.{goodSlot, goodFields, goodMembers, goodTree, Fit, starts, whole, fitsLine, clash, avoids, noneOf, apartFields, apartMembers, apart}
-use Rattle.sheets.proofs.Machine.{Spot, within, first, over, Move, no, go, fit, next, seek, tell, moveOf, following, walk}
+use Rattle.sheets.proofs.Small.{is-false, or-true, or-none, drop-append}
+use Rattle.sheets.proofs.Checks.{goodSlot, goodFields, goodMembers, goodTree, Fit, starts, whole, fitsLine, clash, avoids, noneOf, apartFields, laterApart, apartMembers, apart}
+use Rattle.sheets.proofs.Machine.{Spot, within, first, over, Move, no, go, fit, next, seek, laterField, tell, moveOf, following, walk}
 use Rattle.sheets.proofs.Walk.{good-chain, layout-walk}
 
 -- ---- texts that do not clash
@@ -167,6 +167,12 @@ unfolding noneOf fitsLine
 none-among k v (front {m = m}) h = clear-key (starts k) (m .key) v (and-left _ _ h)
 none-among k v (later {k = j} i) h = none-among k v i (and-right (not (clash (starts k) (starts (j .key)))) _ h)
 
+none-later : (fs : List Field) (v : List ℕ) {m : Member} {ms : List Member} → Among m ms → laterApart fs ms ≡ true → laterField fs (m .key ++ v) ≡ false
+unfolding laterApart laterField
+none-later [] v i h = refl
+none-later (f ∷ fs) v {m = m} {ms = ms} i h =
+    or-none (begins (f .key) (m .key ++ v)) _ (none-among (f .key) v i (and-left (noneOf (f .key) ms) _ h)) (none-later fs v i (and-right (noneOf (f .key) ms) _ h))
+
 -- the checks of a member, from those of all
 module _ (c : List ℕ) where
   abbrev Checked : Member → Type 0
@@ -179,7 +185,7 @@ module _ (c : List ℕ) where
       (and-left _ _ h, and-left (apartFields (m .inside) c) _ (and-right (noneOf (m .key) ms) _ r))
   checked (later {k = k} {ms = ms} i) h =
       let r = and-right (not (clash (whole c) (starts (k .key)))) _ h in
-      checked i (and-right (apartFields (k .inside) c) _ (and-right (noneOf (k .key) ms) _ r))
+      checked i (and-right (laterApart (k .inside) ms) _ (and-right (apartFields (k .inside) c) _ (and-right (noneOf (k .key) ms) _ r)))
 
   -- its first field tells it from the others
   tell-among : (slots v : List ℕ) (g : Tree) (ts : List Tree) {m : Member} {ms : List Member} → Among m ms → apartMembers c ms ≡ true → has slots (m .slot) ≡ false
@@ -189,8 +195,9 @@ module _ (c : List ℕ) where
   tell-among slots v g ts (later {m = m} {k = k} {ms = ms} i) h e =
       let r = and-right (not (clash (whole c) (starts (k .key)))) _ h in
       let s = and-right (noneOf (k .key) ms) _ r in
-      let a = and-right (apartFields (k .inside) c) _ s in
-      rw (none-among (k .key) v i (and-left _ _ r), clear-key (whole c) (m .key) v (checked i a .0)) (tell-among slots v g ts i a e)
+      let q = and-right (apartFields (k .inside) c) _ s in
+      let a = and-right (laterApart (k .inside) ms) _ q in
+      rw (none-among (k .key) v i (and-left _ _ r), none-later (k .inside) v i (and-left _ _ q), clear-key (whole c) (m .key) v (checked i a .0)) (tell-among slots v g ts i a e)
 
 apart-chain : (fs : List Field) (c : List ℕ) → apartFields fs c ≡ true → apart (chain fs c) ≡ true
 unfolding apartFields apart chain

@@ -62,11 +62,15 @@ unfoldable pub apartFields : List Field → List ℕ → Bool
 apartFields [] c = true
 apartFields (f ∷ fs) c = avoids (starts (f .key)) (chain fs c) && apartFields fs c
 
--- the members are told apart by their first fields, and the last line is none of these
+unfoldable pub laterApart : List Field → List Member → Bool
+laterApart [] ms = true
+laterApart (f ∷ fs) ms = noneOf (f .key) ms && laterApart fs ms
+
+-- the members are told apart by their first fields, and neither the last line nor a later field is one of these
 unfoldable pub apartMembers : List ℕ → List Member → Bool
 apartMembers c [] = true
 apartMembers c (m ∷ ms) =
-    not (clash (whole c) (starts (m .key))) && (noneOf (m .key) ms && (apartFields (m .inside) c && apartMembers c ms))
+    not (clash (whole c) (starts (m .key))) && (noneOf (m .key) ms && (apartFields (m .inside) c && (laterApart (m .inside) ms && apartMembers c ms)))
 
 unfoldable pub apart : Tree → Bool
 apart (last c) = true

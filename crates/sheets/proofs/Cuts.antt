@@ -14,7 +14,7 @@ use Rattle.layout.specs.Layout.{Taken, Run, refusedAt, taken, withTaken, layout
 use Rattle.sheets.specs.Trees.{Field, Member, Tree, last, line, block, group, chain, tableOf}
 use Rattle.sheets.specs.Sheets.{Entry, edge, held, lineOf, linesIn, takenIn, come, has, lacking, Among, front, later, Laid, shut, given, absent, opened, passed, member, done, Sheet}
 use Rattle.sheets.proofs.Checks.{goodSlot, goodFields, goodMembers, goodTree, freeFields, freeMembers, free}
-use Rattle.sheets.proofs.Machine.{Spot, within, first, over, Move, no, go, fit, next, seek, tell, moveOf, following, walk}
+use Rattle.sheets.proofs.Machine.{Spot, within, first, over, Move, no, go, fit, next, seek, laterField, tell, moveOf, following, walk}
 use Rattle.sheets.proofs.Walk.{goodSpot, goodTrees, GoodMove, good-move, layout-walk}
 use Rattle.sheets.proofs.Accepts.{come-append, not-zero}
 use Rattle.sheets.proofs.Small.{of-both, drop-append}
@@ -175,8 +175,9 @@ module _ (slots l : List ℕ) where
   found-tell n a o c all (m ∷ ms) t ts f g =
       of-both P (begins (m .key) l)
       (λ e. of-both P (has slots (m .slot)) (λ h. tt) (λ h. found-member n a o c all t ts m (f m front) e h (and-left _ _ g)))
-      (λ e. of-both P (same c l) (λ h. tt)
-      (λ h. found-tell n a o c all ms t ts (λ x i. f x (later i)) (and-right (goodFields (m .inside)) _ (and-right (goodSlot (m .slot)) _ g))))
+      (λ e. of-both P (laterField (m .inside) l) (λ h. tt)
+      (λ y. of-both P (same c l) (λ h. tt)
+      (λ h. found-tell n a o c all ms t ts (λ x i. f x (later i)) (and-right (goodFields (m .inside)) _ (and-right (goodSlot (m .slot)) _ g)))))
     where
       P : Move → Type 0
       P = Found (LaidFrom slots (first n a o c all t) ts)
@@ -250,7 +251,7 @@ module _ (z : List ℕ) where
         let i = freeFields z (m .inside) c in
         of-both Safe (begins (m .key) l)
         (λ e. of-both Safe (has slots (m .slot)) (λ x. tt) (λ x. and-both {a = free z false (chain (m .inside) c)} (free-chain (m .inside) c (and-left i _ r)) k))
-        (λ e. of-both Safe (same c l) (λ x. tt) (λ x. safe-tell ms c t ts (and-right i _ r) k))
+        (λ e. of-both Safe (laterField (m .inside) l) (λ x. tt) (λ y. of-both Safe (same c l) (λ x. tt) (λ x. safe-tell ms c t ts (and-right i _ r) k)))
 
     safe-move : (spot : Spot) (ts : List Tree) → safe spot ts ≡ true → Safe (moveOf slots l spot ts)
     unfolding moveOf safe Safe safeTrees free
@@ -292,7 +293,8 @@ module _ (z : List ℕ) where
     ends-tell (m ∷ ms) c t ts h =
         let k = not (begins (m .key) z) in
         rw (not-true (begins (m .key) z) (and-left k _ h))
-        (of-both Ends (same c z) (λ e. tt) (λ e. ends-tell ms c t ts (and-right (freeFields z (m .inside) c) _ (and-right k _ h))))
+        (of-both Ends (laterField (m .inside) z) (λ e. tt)
+        (λ y. of-both Ends (same c z) (λ e. tt) (λ e. ends-tell ms c t ts (and-right (freeFields z (m .inside) c) _ (and-right k _ h)))))
 
     ends-move : (spot : Spot) (ts : List Tree) → safe spot ts ≡ true → Ends (moveOf slots z spot ts)
     unfolding moveOf safe Ends safeTrees free

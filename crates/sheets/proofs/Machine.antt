@@ -39,13 +39,19 @@ seek slots l p ts (group n a o c ms t) =
     cond (same o l && (a || lacking slots ms)) (fit p (go 0 0 (first n a o c ms t) ts))
     (seek slots l (p || (n && lacking slots ms)) ts t)
 
--- the first field of one of many blocks, held against the members one after the other
+-- a line is one of some fields
+unfoldable pub laterField : List Field → List ℕ → Bool
+laterField [] l = false
+laterField (f ∷ fs) l = begins (f .key) l || laterField fs l
+
+-- the first field of one of many blocks, held against the members one after the other; a later field or the last line has passed
+-- it over
 unfoldable pub tell : List ℕ → List ℕ → List ℕ → Tree → List Tree → List Member → Move
 tell slots l c g ts [] = no 8
 tell slots l c g ts (m ∷ ms) =
     cond (begins (m .key) l)
     (cond (has slots (m .slot)) (no 8) (go (m .slot) (length (m .key)) (within (chain (m .inside) c)) (g ∷ ts)))
-    (cond (same c l) (no 9) (tell slots l c g ts ms))
+    (cond (laterField (m .inside) l) (no 9) (cond (same c l) (no 9) (tell slots l c g ts ms)))
 
 unfoldable pub moveOf : List ℕ → List ℕ → Spot → List Tree → Move
 moveOf slots l (within t) ts = seek slots l false ts t

@@ -13,7 +13,7 @@ use Rattle.sheets.specs.Trees.{Field, Member, Tree, last, line, block, g
 use Rattle.sheets.specs.Sheets.{Entry, edge, held, lineOf, linesIn, come, has, Among, front, later, Laid, shut, given, absent, opened, passed, member, done, Sheet}
 use Rattle.sheets.specs.Filled.{some, valueIn, anyField, anyMember, anyIn, filledFields, filledMembers, filled}
 use Rattle.sheets.specs.Plain.{Group, ahead, through, firstBegins, blockWith, blocksWith, anyLine, past, arranged, inOrder, keysOf, groupsOf}
-use Rattle.sheets.proofs.Checks.{clash, starts, whole, fitsLine, noneOf, apartFields, apartMembers, freeFields, freeMembers, free, fieldSlots, ownSlots, memberSlots, slotsOf, disjoint, distinct, soleMembers, sole, allFree, closedMembers, heavy, tellable, full}
+use Rattle.sheets.proofs.Checks.{clash, starts, whole, fitsLine, noneOf, apartFields, laterApart, apartMembers, freeFields, freeMembers, free, fieldSlots, ownSlots, memberSlots, slotsOf, disjoint, distinct, soleMembers, sole, allFree, closedMembers, heavy, tellable, full}
 use Rattle.sheets.proofs.Accepts.{clash-apart, none-among, lines-append}
 use Rattle.sheets.proofs.Once.{has-append, apart-lists, slotsHeld, has-held, among-slots, chain-slots, inside, outside, Disjoint, one-or-apart, own-held, own-distinct, not-again, comes-once, own-values}
 use Rattle.sheets.proofs.Emits.{has-front, come-more, Fits}
@@ -352,7 +352,7 @@ keys-apart c h (later {m = m} i) (front {m = k} {ms = ms}) =
     inr (λ v. clash-apart (starts (m .key)) (starts (k .key)) (k .key ++ v) e (begins-append (k .key) v))
 keys-apart c h (later {k = x} {ms = ms} i) (later j) =
     let r = and-right (noneOf (x .key) ms) _ (and-right (not (clash (whole c) (starts (x .key)))) _ h) in
-    keys-apart c (and-right (apartFields (x .inside) c) _ r) i j
+    keys-apart c (and-right (laterApart (x .inside) ms) _ (and-right (apartFields (x .inside) c) _ r)) i j
 
 through-lines : (c : List ℕ) (ls rest : List (List ℕ)) (es us : List Entry) → linesIn es ≡ ls ++ c ∷ [] → anyLine c ls ≡ false
     → through c (linesIn (es ++ us) ++ rest) ≡ linesIn es

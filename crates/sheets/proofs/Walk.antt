@@ -22,7 +22,7 @@ use Rattle.layout.specs.declared.Look.the-variants.{Decided, Further}
 use Rattle.sheets.specs.Trees.{Field, Member, Tree, last, line, block, group, chain, fieldRows, memberRows, rowsIn, tableOf}
 use Rattle.sheets.specs.Sheets.{has, lacking}
 use Rattle.sheets.proofs.Checks.{goodSlot, goodFields, goodMembers, goodTree}
-use Rattle.sheets.proofs.Machine.{Spot, within, first, over, Move, no, go, fit, next, seek, tell, moveOf, following, walk}
+use Rattle.sheets.proofs.Machine.{Spot, within, first, over, Move, no, go, fit, next, seek, laterField, tell, moveOf, following, walk}
 
 -- the rows of what is left of the blocks around
 unfoldable pub rowsAround : List Tree → List Row
@@ -68,6 +68,11 @@ does-on : (table : List Row) (b : Bool) (d : ℕ) (u p : Bool) (rest : ℕ → B
 unfolding onward
 does-on table true d u p rest h k = h
 does-on table false d u p rest h k = k
+
+-- one of two tests, or the one and then the other
+either : {A : Type 0} (a b : Bool) (x y : A) → cond (a || b) x y ≡ cond a x (cond b x y)
+either true b x y = refl
+either false b x y = refl
 
 -- ---- what is seen
 
@@ -124,12 +129,12 @@ module _ (table : List Row) (here : Place) (seen slots l : List ℕ) (told : Tol
   unfolding scan onward
   over-row row d u p r rows e h = rw h
 
-  skip-fields : (fs : List Field) (rows : List Row) (row d : ℕ) (u p : Bool) → drop row table ≡ fieldRows fs rows → Passed (suc d) (fieldRows fs rows) row (suc d) rows u p
+  skip-fields : (fs : List Field) (rows : List Row) (row d : ℕ) (p : Bool) → drop row table ≡ fieldRows fs rows → Passed (suc d) (fieldRows fs rows) row (suc d) rows false p
   unfolding fieldRows look beneath
-  skip-fields [] rows row d u p e = (row, e, refl)
-  skip-fields (f ∷ fs) rows row d u p e =
-      let q = over-row row d u p (field (f .must) (f .slot) (f .key)) (fieldRows fs rows) (suc d) (rw (deep-false d)) in
-      let r = skip-fields fs rows (row + 1) d u p (next-row table row _ _ e) in
+  skip-fields [] rows row d p e = (row, e, refl)
+  skip-fields (f ∷ fs) rows row d p e =
+      let q = over-row row d false p (field (f .must) (f .slot) (f .key)) (fieldRows fs rows) (suc d) (rw (deep-false d)) in
+      let r = skip-fields fs rows (row + 1) d p (next-row table row _ _ e) in
       (r .0, r .1, q ∙ r .2)
 
   skip-members : (c : List ℕ) (ms : List Member) (rows : List Row) (row d : ℕ) (p : Bool) → drop row table ≡ memberRows c ms rows → Passed d (memberRows c ms rows) row (suc d) rows false p
@@ -139,7 +144,7 @@ module _ (table : List Row) (here : Place) (seen slots l : List ℕ) (told : Tol
       (row + 1, next-row table row _ _ e, q)
   skip-members c (m ∷ ms) rows row d p e =
       let q = over-row row d false p (mark (m .slot) (m .key)) (fieldRows (m .inside) (back c ∷ memberRows c ms rows)) (suc (suc d)) (rw (deep-false d) (ap (λ k. Further k false p) (omega arith))) in
-      let r = skip-fields (m .inside) (back c ∷ memberRows c ms rows) (row + 1) (suc d) false p (next-row table row _ _ e) in
+      let r = skip-fields (m .inside) (back c ∷ memberRows c ms rows) (row + 1) (suc d) p (next-row table row _ _ e) in
       let s = over-row (r .0) (suc d) false p (back c) (memberRows c ms rows) (suc d) (rw (deep-false (suc d)) (ap (λ k. Further k false p) (omega arith))) in
       let t = skip-members c ms rows (r .0 + 1) d p (next-row table (r .0) _ _ (r .1)) in
       (t .0, t .1, q ∙ (r .2 ∙ (s ∙ t .2)))
@@ -215,6 +220,17 @@ module _ (table : List Row) (here : Place) (seen slots l : List ℕ) (told : Tol
       (does-fit p (takes-for refl refl refl (in-member fs c rows e' b)))
       (does-inside fs c rows t ts (row + 1) u (p || f .must) e' b)
 
+  -- past the later fields of one of many blocks, and on behind them
+  does-later : (fs : List Field) (rows : List Row) (row : ℕ) {move : Move} → drop row table ≡ fieldRows fs rows
+      → ((to : ℕ) → drop to table ≡ rows → Does table (from to rows 1 true false) move)
+      → Does table (from row (fieldRows fs rows) 1 true false) (cond (laterField fs l) (no 9) move)
+  unfolding fieldRows scan look beneath laterField onward
+  does-later [] rows row e h = h row e
+  does-later (f ∷ fs) rows row {move = move} e h =
+      rw (either (begins (f .key) l) (laterField fs l) (no 9) move)
+      (does-on table (begins (f .key) l) 1 true false (from (row + 1) (fieldRows fs rows)) (refuses {k = 9} refl (omega arith))
+      (does-later fs rows (row + 1) (next-row table row _ _ e) h))
+
   -- first in one of many blocks
   does-first : (ms : List Member) (c : List ℕ) (rows : List Row) (t : Tree) (ts : List Tree) (row : ℕ) (u : Bool) → goodMembers ms ≡ true
       → drop row table ≡ memberRows c ms rows → drop (here .back) table ≡ rowsIn t (rowsAround ts)
@@ -224,14 +240,13 @@ module _ (table : List Row) (here : Place) (seen slots l : List ℕ) (told : Tol
   does-first (m ∷ ms) c rows t ts row u g e b =
       let e' = next-row table row _ _ e in
       let k : goodSlot (m .slot) ≡ true = and-left _ _ g in
-      let s = skip-fields (m .inside) (back c ∷ memberRows c ms rows) (row + 1) 0 true false e' in
       rw (told .1 (m .slot) k)
       (does-on table (begins (m .key) l) 1 true false (from (row + 1) (fieldRows (m .inside) (back c ∷ memberRows c ms rows)))
       (does-cond table (has slots (m .slot)) does-8 (takes-for refl refl refl (in-member (m .inside) c (memberRows c ms rows) e' b)))
-      (rw (s .2)
-      (does-on table (same c l) 0 true false (from (s .0 + 1) (memberRows c ms rows))
+      (does-later (m .inside) (back c ∷ memberRows c ms rows) (row + 1) e'
+      (λ to q. does-on table (same c l) 0 true false (from (to + 1) (memberRows c ms rows))
       (refuses {k = 9} refl (omega arith))
-      (does-first ms c rows t ts (s .0 + 1) true (and-right (goodFields (m .inside)) _ (and-right (goodSlot (m .slot)) _ g)) (next-row table (s .0) _ _ (s .1)) b))))
+      (does-first ms c rows t ts (to + 1) true (and-right (goodFields (m .inside)) _ (and-right (goodSlot (m .slot)) _ g)) (next-row table to _ _ q) b))))
 
 -- ---- a step is a move
 
@@ -302,7 +317,7 @@ module _ (slots l : List ℕ) where
       let r = and-right (goodSlot (m .slot)) _ g in
       good-cond (begins (m .key) l) _ _
       (good-cond (has slots (m .slot)) _ _ tt (λ e. and-left _ _ g, good-chain (m .inside) c (and-left _ _ r), and-both k h))
-      (good-cond (same c l) _ _ tt (good-tell ms c t ts (and-right (goodFields (m .inside)) _ r) k h))
+      (good-cond (laterField (m .inside) l) _ _ tt (good-cond (same c l) _ _ tt (good-tell ms c t ts (and-right (goodFields (m .inside)) _ r) k h)))
 
   pub good-move : (spot : Spot) (ts : List Tree) → goodSpot spot ≡ true → goodTrees ts ≡ true → GoodMove (moveOf slots l spot ts)
   unfolding moveOf goodSpot goodTree GoodMove

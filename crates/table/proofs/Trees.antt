@@ -6,7 +6,7 @@ use mathlib.Core.List.{[]}
 use Rattle.text.specs.Bytes.{bytes, begins, same}
 use Rattle.sheets.specs.Trees.{chain, fieldRows, memberRows, rowsIn, tableOf}
 use Rattle.sheets.specs.Sheets.{has}
-use Rattle.sheets.proofs.Checks.{goodSlot, goodFields, goodMembers, goodTree, clash, avoids, noneOf, apartFields, apartMembers, apart, freeFields, freeMembers, free, withFields, withMembers, withTree, onceMembers, once, fieldSlots, ownSlots, memberSlots, slotsOf, disjoint, distinct, soleMembers, sole, allFree, closedMembers, heavy, tellable}
+use Rattle.sheets.proofs.Checks.{goodSlot, goodFields, goodMembers, goodTree, clash, avoids, noneOf, apartFields, laterApart, apartMembers, apart, freeFields, freeMembers, free, withFields, withMembers, withTree, onceMembers, once, fieldSlots, ownSlots, memberSlots, slotsOf, disjoint, distinct, soleMembers, sole, allFree, closedMembers, heavy, tellable}
 use Rattle.sheets.specs.Plain.{groupsOf, keysOf}
 use Rattle.table.specs.Table.{table}
 use Rattle.table.specs.Tree.{general, pool, details, tree}
@@ -22,7 +22,7 @@ good = refl
 
 -- no line has to choose between two rows
 pub is-apart : apart tree ≡ true
-unfolding tree general pool details apart apartMembers apartFields noneOf avoids clash begins same bytes chain
+unfolding tree general pool details apart apartMembers apartFields laterApart noneOf avoids clash begins same bytes chain
 is-apart = refl
 
 -- the line `-` is the last of all
@@ -42,5 +42,5 @@ is-sole = refl
 
 -- the first and last lines of LINK and of a party's block are no other row's
 pub is-tellable : tellable tree ≡ true
-unfolding tree general pool details tellable heavy allFree closedMembers groupsOf keysOf free freeMembers freeFields apartMembers apartFields noneOf avoids clash begins same bytes chain
+unfolding tree general pool details tellable heavy allFree closedMembers groupsOf keysOf free freeMembers freeFields apartMembers apartFields laterApart noneOf avoids clash begins same bytes chain
 is-tellable = refl

@@ -13,26 +13,38 @@ mul-kind c = search needs
 shared-slice-read-kind : tie.Need-shared-slice-read-kind
 shared-slice-read-kind c = search needs
 
-add-t13 : tie.Need-add-t13
-add-t13 c = search needs
+key-requires : tie.Need-key-requires
+key-requires c κs = search needs
 
-add-t14 : tie.Need-add-t14
-add-t14 c = search needs
+look-inside-requires : tie.Need-look-inside-requires
+look-inside-requires c κs = search needs
 
-sub-t15 : tie.Need-sub-t15
-sub-t15 c = search needs
+key-requires-2 : tie.Need-key-requires-2
+key-requires-2 c κs = search needs
+
+look-inside-requires-2 : tie.Need-look-inside-requires-2
+look-inside-requires-2 c κs = search needs
+
+add-t15 : tie.Need-add-t15
+add-t15 c = search needs
 
 add-t16 : tie.Need-add-t16
 add-t16 c = search needs
 
-add-t17 : tie.Need-add-t17
-add-t17 c = search needs
+sub-t17 : tie.Need-sub-t17
+sub-t17 c = search needs
 
 add-t18 : tie.Need-add-t18
 add-t18 c = search needs
 
-key-requires : tie.Need-key-requires
-key-requires c κs = search needs
+add-t19 : tie.Need-add-t19
+add-t19 c = search needs
+
+add-t20 : tie.Need-add-t20
+add-t20 c = search needs
+
+key-requires-3 : tie.Need-key-requires-3
+key-requires-3 c κs = search needs
 
 closes-bare-requires : tie.Need-closes-bare-requires
 closes-bare-requires c κs = search needs
@@ -40,19 +52,23 @@ closes-bare-requires c κs = search needs
 refuse-requires : tie.Need-refuse-requires
 refuse-requires c κs = search needs
 
-sub-t23 : tie.Need-sub-t23
-sub-t23 c = search needs
+sub-t25 : tie.Need-sub-t25
+sub-t25 c = search needs
 
-sub-t24 : tie.Need-sub-t24
-sub-t24 c = search needs
+sub-t26 : tie.Need-sub-t26
+sub-t26 c = search needs
 
 returns : tie.Need-returns
 unfolding beneath rowOf
-returns c = rw (row-at, c .match .keys1)
+returns c =
+    let k = c .before in
+    rw (row-of _ _ 1 _ (k .before .match .keys1) (k .key .ensures)) (c .look-inside .ensures)
 
 returns-2 : tie.Need-returns-2
 unfolding beneath rowOf
-returns-2 c = rw (row-at, c .match .keys2)
+returns-2 c =
+    let k = c .before in
+    rw (row-of _ _ 2 _ (k .before .match .keys2) (k .key2 .ensures)) (c .look-inside2 .ensures)
 
 returns-3 : tie.Need-returns-3
 unfolding beneath rowOf
@@ -83,14 +99,14 @@ unfolding beneath rowOf
 returns-9 c =
     let b = c .before .before in
     let k = b .before in
-    rw (row-of _ _ 9 _ (k .before .match .keys9) (k .key .ensures), ← b .closes-bare .ensures, c .before .if1 .taken, c .refuse .ensures)
+    rw (row-of _ _ 9 _ (k .before .match .keys9) (k .key3 .ensures), ← b .closes-bare .ensures, c .before .if1 .taken, c .refuse .ensures)
 
 returns-10 : tie.Need-returns-10
 unfolding beneath rowOf
 returns-10 c =
     let b = c .before in
     let k = b .before in
-    rw (row-of _ _ 9 _ (k .before .match .keys9) (k .key .ensures), ← b .closes-bare .ensures, c .if1 .left)
+    rw (row-of _ _ 9 _ (k .before .match .keys9) (k .key3 .ensures), ← b .closes-bare .ensures, c .if1 .left)
 
 returns-11 : tie.Need-returns-11
 unfolding beneath NoneTo
@@ -102,17 +118,21 @@ look-beneath-spec =
     (tie.spec
     mul-kind
     shared-slice-read-kind
-    add-t13
-    add-t14
-    sub-t15
-    add-t16
-    add-t17
-    add-t18
     key-requires
+    look-inside-requires
+    key-requires-2
+    look-inside-requires-2
+    add-t15
+    add-t16
+    sub-t17
+    add-t18
+    add-t19
+    add-t20
+    key-requires-3
     closes-bare-requires
     refuse-requires
-    sub-t23
-    sub-t24
+    sub-t25
+    sub-t26
     returns
     returns-2
     returns-3
