@@ -5,24 +5,33 @@ use mathlib.Core.Path.{_≡_, refl, sym, ap, _∙_}
 use mathlib.Core.Bool.{Bool, true, false, cond}
 use mathlib.Core.List.{List, [], _∷_, _++_, map, append-nil}
 use native.Mathlib.Omega.{arith}
+use mathlib.Core.Logic.{_⊎_, inl, inr, ⊎-elim}
 use lib.Dec.{eqb, ltb}
 use lib.ListN.{length, drop, getD}
 use borrow.Author.Tests.{eqb-true, eqb-false, eq-eqb, le-ltb}
 use Rattle.text.specs.Copy.{over}
 use Rattle.trade.specs.declared.Trade.{Trade}
+use Rattle.trade.specs.Records.{tradeOf}
+use Rattle.trade.specs.declared.Kind.{Kind}
+use Rattle.lines.specs.Verdicts.{refused, pass, then}
+use Rattle.lines.specs.declared.Verdict.{Verdict}
+use Rattle.kinds.specs.Kinds.{when, recordPass}
+use Rattle.sheets.proofs.Small.{of-both}
 use Rattle.judge.specs.Judging.{judgeOf}
 use Rattle.mt515.specs.Reading.{reading, verdictOf, readOf}
 use Rattle.mt515.specs.declared.Reading.{Reading}
 use Rattle.message.specs.Messages.{linesFor, messageOf}
 use Rattle.message.specs.Plain.{plainOf}
 use Rattle.message.specs.Writing.{writeNumber, writeLength, writtenOver, writable}
+use Rattle.message.specs.Cases.{broadest, writes}
+use Rattle.message.proofs.Cases.{answered}
 use Rattle.message.proofs.Lengths.{message-most}
-use Rattle.demands.specs.Lawful.{Lawful}
+use Rattle.demands.specs.Lawful.{saidIn, Lawful}
 use Rattle.demands.specs.Pieces.{pieces, together}
 use Rattle.demands.specs.Demands.{Accepted, recordOf, accepts, AllWritable, written, Demands}
 use Rattle.demands.proofs.Joins.{Whole}
 use Rattle.demands.proofs.Pieces.{Message, Messages, message-joined, no-beginning, pieces-of, same-batch}
-use Rattle.demands.proofs.Accepting.{accepted-lawful, lawful-accepted}
+use Rattle.demands.proofs.Accepting.{body-taken, record-said, accepted-line, accepted-lawful, lawful-accepted}
 use Rattle.demands.proofs.Writes.{read-judged, read-plain}
 use Rattle.demands.proofs.Round.{written-read}
 use Rattle.demands.proofs.Whole.{whole-for}
@@ -44,6 +53,58 @@ room-takes t room j h = rw (j, le-ltb room (length (messageOf t)) h)
 judged-writable : (t : Trade) → judgeOf t ≡ 0 → writable t ≡ true
 unfolding writable
 judged-writable t j = eq-eqb (writeNumber t 822) 0 (room-takes t 822 j (message-most t j))
+
+-- ---- a record is never judged 19, which is the room's number
+
+Not19 : Verdict → Type 0
+Not19 v = v .number ≡ 19 → ⊥
+
+not-then : (v w : Verdict) → Not19 v → Not19 w → Not19 (then v w)
+unfolding then
+not-then v w h k = of-both Not19 (eqb (v .number) 0) (λ e. k) (λ e. h)
+
+not-when : (b : Bool) (n : ℕ) → (n ≡ 19 → ⊥) → Not19 (when b n)
+unfolding Not19 when refused pass
+not-when true n h e = h e
+not-when false n h e = omega arith
+
+judged-not : (t : Trade) → judgeOf t ≡ 19 → ⊥
+unfolding judgeOf recordPass Not19
+judged-not t =
+    not-then _ _ (not-when _ 18 (λ e. omega arith))
+    (not-then _ _
+    (not-then _ _ (not-when _ 14 (λ e. omega arith))
+    (not-then _ _ (not-when _ 15 (λ e. omega arith)) (not-then _ _ (not-when _ 16 (λ e. omega arith)) (not-when _ 17 (λ e. omega arith)))))
+    (not-when _ 20 (λ e. omega arith)))
+
+room-only : (t : Trade) (room : ℕ) → judgeOf t ≡ 0 → (writeNumber t room ≡ 0) ⊎ (writeNumber t room ≡ 19)
+unfolding writeNumber
+room-only t room j = rw j (on (ltb room (length (messageOf t))))
+  where
+    on : (b : Bool) → let n : ℕ = cond b 19 0 in (n ≡ 0) ⊎ (n ≡ 19)
+    on true = inr refl
+    on false = inl refl
+
+only-judged : (t : Trade) → ((room : ℕ) → (writeNumber t room ≡ 0) ⊎ (writeNumber t room ≡ 19)) → judgeOf t ≡ 0
+unfolding writeNumber
+only-judged t h = on (eqb (judgeOf t) 0) refl (h 0)
+  where
+    on : (b : Bool) → eqb (judgeOf t) 0 ≡ b
+        → (cond b (cond (ltb 0 (length (messageOf t))) 19 0) (judgeOf t) ≡ 0) ⊎ (cond b (cond (ltb 0 (length (messageOf t))) 19 0) (judgeOf t) ≡ 19)
+        → judgeOf t ≡ 0
+    on true e q = eqb-true (judgeOf t) 0 e
+    on false e q = ⊎-elim (λ z. z) (λ z. absurd (judged-not t z)) q
+
+-- an MDFC with every field at its widest
+broadest-takes : writeNumber broadest 822 ≡ 0
+unfolding writes
+broadest-takes = ap (λ (ns : List ℕ). getD ns 0 1) (answered .1)
+
+broadest-long : length (messageOf broadest) ≡ 822
+unfolding writes writeLength
+broadest-long =
+    let e : writeLength broadest 822 ≡ 822 = ap (λ (ns : List ℕ). getD ns 0 0) (answered .2) in
+    rw broadest-takes at e
 
 -- ---- reading a written record
 
@@ -107,10 +168,11 @@ writes-number m buf z h =
 -- ---- the demands
 
 pub demands : Demands
-unfolding readOf reading
+unfolding readOf reading writable broadest
 demands =
     record {
       accepts-lawful = λ m. (λ z. accepted-lawful m (accepted m z), λ w. lawful-number m w);
+      reads-fields = λ m w. fields m w;
       reads-back = λ t h. read-written t (writable-judged t h);
       writes-plain = writes-number;
       writes = λ m z. judged-writable (recordOf m) (judged m z);
@@ -122,11 +184,21 @@ demands =
       written-apart = λ ts us h k e. one-list ts us h k (same-batch (map messageOf ts) (map messageOf us) (messages-of ts h) (messages-of us k) e);
       no-beginning = λ t u rest h k e. first-alone t u rest (writable-judged t h) (writable-judged u k) e;
       cuts-apart = λ ts h. pieces-of (map messageOf ts) (messages-of ts h);
-      longest = λ t room h. (message-most t (writable-judged t h), λ l. room-takes t room (writable-judged t h) l);
+      no-longer = λ t h. message-most t (writable-judged t h);
+      as-long = (broadest, broadest-kind, eq-eqb (writeNumber broadest 822) 0 broadest-takes, broadest-long);
+      only-room = λ t. (λ h room. room-only t room (writable-judged t h), λ h. judged-writable t (only-judged t h));
     }
   where
     lawful-number : (m : List ℕ) → Lawful m → Accepted m
     lawful-number m w = lawful-accepted m w
+
+    fields : (m : List ℕ) (w : Lawful m) → readOf m ≡ accepts (tradeOf (saidIn m (w .sheet)))
+    fields m w =
+        let z = lawful-accepted m w in
+        record-said m (w .sheet) (w .laid) (body-taken m (w .sheet) (w .laid) (w .lines)) z ∙ rw (accepted-line m z)
+
+    broadest-kind : broadest .kind ≡ Kind.Mdfc
+    broadest-kind = refl
 
     first-alone : (t u : Trade) (rest : List ℕ) → judgeOf t ≡ 0 → judgeOf u ≡ 0 → messageOf u ≡ messageOf t ++ rest → (rest ≡ []) × (t ≡ u)
     first-alone t u rest j k e =

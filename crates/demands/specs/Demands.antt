@@ -5,16 +5,18 @@ use Prim.Native.Nat.{ℕ, _≤_}
 use mathlib.Core.Path.{_≡_}
 use mathlib.Core.Bool.{true}
 use mathlib.Core.List.{List, [], _∷_, _++_, map}
-use mathlib.Core.Logic.{_↔_}
+use mathlib.Core.Logic.{_↔_, _⊎_}
 use lib.ListN.{length}
 use Rattle.text.specs.Copy.{over}
+use Rattle.trade.specs.Records.{tradeOf}
+use Rattle.trade.specs.declared.Kind.{Kind}
 use Rattle.trade.specs.declared.Trade.{Trade}
 use Rattle.mt515.specs.Reading.{readOf}
 use Rattle.mt515.specs.declared.Reading.{Reading}
 use Rattle.message.specs.Messages.{messageOf}
 use Rattle.message.specs.Plain.{plainOf}
 use Rattle.message.specs.Writing.{writeNumber, writeLength, writtenOver, writable}
-use Rattle.demands.specs.Lawful.{Lawful}
+use Rattle.demands.specs.Lawful.{saidIn, Lawful}
 use Rattle.demands.specs.Pieces.{pieces, together}
 
 abbrev pub Accepted : List ℕ → Type 0
@@ -31,6 +33,10 @@ accepts t = record { number = 0; line = 0; trade = t }
 
 abbrev pub AcceptsLawful : Type 0
 AcceptsLawful = (m : List ℕ) → Accepted m ↔ Lawful m
+
+-- the record of a lawful message is what its sheet says, slot by slot
+abbrev pub ReadsFields : Type 0
+ReadsFields = (m : List ℕ) (w : Lawful m) → readOf m ≡ accepts (tradeOf (saidIn m (w .sheet)))
 
 -- Reading back a written record gives that record
 abbrev pub ReadsBack : Type 0
@@ -79,12 +85,19 @@ CutsApart = (ts : List Trade) → AllWritable ts → pieces (written ts) ≡ map
 
 -- ---- the longest written message has 822 bytes
 
--- a record that a buffer of 822 bytes takes is one that is refused by nothing but a buffer that is too short
-abbrev pub Longest : Type 0
-Longest = (t : Trade) (room : ℕ) → writable t ≡ true → (length (messageOf t) ≤ 822) × (length (messageOf t) ≤ room → writeNumber t room ≡ 0)
+abbrev pub NoLonger : Type 0
+NoLonger = (t : Trade) → writable t ≡ true → length (messageOf t) ≤ 822
+
+abbrev pub AsLong : Type 0
+AsLong = (t : Trade) × (t .kind ≡ Kind.Mdfc) × (writable t ≡ true) × (length (messageOf t) ≡ 822)
+
+-- so a buffer of 822 bytes takes a record exactly when no buffer refuses it but for being too short
+abbrev pub OnlyRoom : Type 0
+OnlyRoom = (t : Trade) → (writable t ≡ true) ↔ ((room : ℕ) → (writeNumber t room ≡ 0) ⊎ (writeNumber t room ≡ 19))
 
 pub record Demands : Type 0 where
   pub accepts-lawful : AcceptsLawful
+  pub reads-fields : ReadsFields
   pub reads-back : ReadsBack
   pub writes-plain : WritesPlain
   pub writes : Writes
@@ -93,4 +106,6 @@ pub record Demands : Type 0 where
   pub written-apart : WrittenApart
   pub no-beginning : NoBeginning
   pub cuts-apart : CutsApart
-  pub longest : Longest
+  pub no-longer : NoLonger
+  pub as-long : AsLong
+  pub only-room : OnlyRoom
