@@ -1,0 +1,145 @@
+#!/bin/sh
+# check.sh - builds the second program and holds it against what document 01 prints:
+# B, the lister's example, "B and its neighbours"; then writing, and generated messages.
+# usage: check.sh [SEED COUNT]   (further generated messages; without: seed 1, 2700, the whole list of near misses)
+set -eu
+cd "$(dirname "$0")"
+work=$(mktemp -d)
+trap 'rm -rf "$work"' EXIT
+flags="-std=c11 -Wall -Wextra -Werror"
+safe="-g -O1 -fsanitize=address,undefined -fno-sanitize-recover=all"
+cc $flags $safe second.c list.c -o "$work/list-checked" 2>/dev/null || cc $flags -O2 second.c list.c -o "$work/list-checked"
+cc $flags $safe second.c records.c -o "$work/records-checked" 2>/dev/null || cc $flags -O2 second.c records.c -o "$work/records-checked"
+
+b() { cat <<'B'
+
+0017
+515/000/GSCC
+MBSCTRRS
+:16R:GENL
+:20C::SEME//0008
+:23G:NEWM
+:22F::TRTR/GSCC/CASH
+:16R:LINK
+:20C::MAST//0017
+:16S:LINK
+:16S:GENL
+:16R:CONFDET
+:98C::TRAD//20240229093000
+:98A::SETT//20240313
+:90A::DEAL//PRCT/99,50
+:22H::BUSE//BUYI
+:22F::PROC/GSCC/INST
+:22H::PAYM//APMT
+:16R:CONFPRTY
+:95R::SELL/GSCC/PART0015
+:16S:CONFPRTY
+:16R:CONFPRTY
+:95R::BUYR/GSCC/PART0017
+:16S:CONFPRTY
+:36B::CONF//FAMT/0001000000,
+:35B:/US/01F070633
+:70E::TPRO//GSCC/TDSVSTIP
+:16S:CONFDET
+-
+B
+}
+
+# one NAME SED WANTED: B changed by a sed script, and what list must print behind the name
+one() { { echo "# $1"; b | sed "$2"; } >> "$work/in"; echo "$1 $3" >> "$work/want"; }
+good="INST 0017 0017 0015 99,5 1000000,"
+none="- - - - - -"
+cr=$(printf '\r')
+
+one B '' "0 0 $good"
+one B-CRLF "s/\$/$cr/" "0 0 $good"
+one B-some-CRLF "1,12s/\$/$cr/" "0 0 $good"
+one MAST-17 '10s/0017/17/' "0 0 INST 17 0017 0015 99,5 1000000,"
+one MAST-15 '10s/0017/15/' "0 0 INST 15 0017 0015 99,5 1000000,"
+one price-0017 '16s/99,50/0017,/' "0 0 INST 0017 0017 0015 17, 1000000,"
+one par-0017 '26s/0001000000,/0017,/' "0 0 INST 0017 0017 0015 99,5 17,"
+for line in 16 26; do
+    one "amount-comma-$line" "${line}s|T/[0-9,]*|T/,|" "11 $line $none"
+    one "amount-17-$line" "${line}s|T/[0-9,]*|T/17|" "11 $line $none"
+    one "amount-1,2,-$line" "${line}s|T/[0-9,]*|T/1,2,|" "11 $line $none"
+    one "amount-fifteen-$line" "${line}s|T/[0-9,]*|T/123456789012345,|" "11 $line $none"
+done
+one price-fourteen '16s/99,50/12345678901234,/' "0 0 INST 0017 0017 0015 12345678901234, 1000000,"
+one par-fourteen '26s/0001000000,/99999999999999,/' "0 0 INST 0017 0017 0015 99,5 99999999999999,"
+one price-0 '16s/99,50/0,/' "0 0 INST 0017 0017 0015 0, 1000000,"
+one par-0,000 '26s/0001000000,/0,000/' "16 0 $none"
+one trade-20000229 '14s/20240229/20000229/' "0 0 $good"
+one trade-20230229 '14s/20240229/20230229/' "12 14 $none"
+one trade-19000229 '14s/20240229/19000229/' "12 14 $none"
+one without-11 '11d' "6 11 $none"
+one without-27 '27d' "9 27 $none"
+one exchanged-14-15 '14{h;d};15{G}' "9 14 $none"
+one second-MAST '11a\
+:16R:LINK\
+:20C::MAST//0018\
+:16S:LINK' "8 13 $none"
+one SETT-20240229 '15s/20240313/20240229/' "0 0 $good"
+one SETT-20240228 '15s/20240313/20240228/' "17 0 $none"
+one SEME-16 '6s/0008/ABCDEFGHIJKLMNOP/' "0 0 $good"
+one SEME-17 '6s/0008/ABCDEFGHIJKLMNOPQ/' "10 6 $none"
+up='4a\
+'
+down='
+'
+for n in 1 2 3 4 5 6 7 8; do up="$up:16R:N$n\\
+"; down=":16S:N$n\\
+$down"; done
+one eight-levels "$up$(printf '%s' "$down" | sed '$d' | sed '$s/\\$//')" "8 5 $none"
+one nine-levels "$up:16R:N9\\
+:16S:N9\\
+$(printf '%s' "$down" | sed '$d' | sed '$s/\\$//')" "7 13 $none"
+# how it is read (docs/DECISIONS.md)
+one hyphen-then-X '$a\
+X' "3 30 $none"
+one hyphen-then-empty '$a\
+\
+' "3 30 $none"
+one hyphen-twice '$a\
+-' "3 30 $none"
+one only-hyphen '1,29d' "4 1 $none"
+one header-and-hyphen '5,29d' "9 5 $none"
+one without-CONFDET '13,29d' "9 13 $none"
+
+"$work/list-checked" < "$work/in" > "$work/got"
+diff "$work/want" "$work/got"
+echo "B and its neighbours: $(wc -l < "$work/want") as printed"
+"$work/list-checked" --twice < "$work/in"
+echo "B and its neighbours: plain form, write, field and batch agree"
+
+# the lister's example, its ends
+{ b; printf 'X\n-\n'; } | "$work/list-checked" --lister > "$work/lister"
+printf 'MSG CODE LINE KIND MAST BUYR SELL\n1 0 0 INST 0017 0017 0015\n2 4 2 - - - -\n' | diff - "$work/lister"
+test "$("$work/list-checked" --lister < /dev/null)" = "MSG CODE LINE KIND MAST BUYR SELL"
+test "$(head -c 65537 /dev/zero | "$work/list-checked" --lister)" = "TOO LONG"
+test "$(head -c 65536 /dev/zero | "$work/list-checked" --lister | tail -1)" = "1 1 0 - - - -"
+echo "lister: as printed; heading for nothing, TOO LONG from 65,537 bytes"
+
+# B's fields: their texts, by offset and length in B itself
+b > "$work/b"
+{ echo '# B'; b; } | "$work/list-checked" --fields | tr ' ' '\n' | sed 1d | while IFS=: read -r offset length; do
+    dd if="$work/b" bs=1 skip="$offset" count="$length" 2>/dev/null; echo
+done > "$work/fields"
+printf '%s\n' 0008 NEWM '' 0017 '' '' 20240229093000 20240313 99,50 BUYI INST 0017 '' '' 0015 '' '' 0001000000, 01F070633 '' TDSVSTIP | diff - "$work/fields"
+echo "fields of B: as numbered"
+
+# B's plain form
+{ echo '# B'; b | sed -n '1,19p' ; b | sed -n '23,25p'; b | sed -n '20,22p'; b | sed -n '26,30p'; } |
+    sed "2,\$s/\$/$cr/; s/99,50/99,5/; s/0001000000/1000000/" > "$work/plain"
+{ echo '# B'; b; } | "$work/list-checked" --plain | cmp - "$work/plain"
+echo "plain form of B: as by the four rules"
+
+"$work/records-checked"
+echo "writing: every refusal, the order of refusals, the widest of each kind (718 770 822 699)"
+
+seed=${1:-1} count=${2:-2700}
+mkdir "$work/files"
+python3 make.py "$seed" "$count" "$work/files"
+for f in "$work/files"/*; do "$work/list-checked" < "$f"; done > "$work/generated"
+awk -f want.awk "$work/generated"
+for f in "$work/files"/*; do "$work/list-checked" --twice < "$f"; done
+echo "generated: plain form, write, field and batch agree"

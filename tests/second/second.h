@@ -1,0 +1,131 @@
+/* second.h - a second program for the MT515 of four kinds, written from document 01 alone.
+ *
+ * It shares no code with the first program; it exists to be compared with it.
+ * Nothing here takes memory from the heap and nothing keeps state between calls.
+ */
+#ifndef SECOND_H
+#define SECOND_H
+
+#include <stddef.h>
+#include <stdint.h>
+#include <stdio.h>
+
+enum {
+    LONGEST_READ = 4096,      /* number 1: more is refused */
+    LONGEST_WRITTEN = 822,    /* an MDFC with every field at its widest */
+    LONGEST_LISTED = 65536,   /* the lister's input */
+    DEEPEST = 8,              /* nesting */
+    WIDEST_TEXT = 20,         /* TDID */
+    WIDEST_AMOUNT = 15,       /* fourteen digits and a comma */
+    FIELDS = 21               /* slots with a value */
+};
+
+/* "Numbers the desk gets back" */
+enum {
+    ACCEPTED = 0,
+    BAD_LENGTH = 1,
+    BAD_BYTE = 2,
+    BAD_END = 3,
+    BAD_HEADER = 4,
+    BAD_SHAPE = 5,
+    BAD_CLOSE = 6,
+    TOO_DEEP = 7,
+    NO_SLOT = 8,
+    PASSED_OVER = 9,
+    BAD_VALUE = 10,
+    BAD_AMOUNT = 11,
+    BAD_DATE = 12,
+    AGAINST_KIND = 13,
+    KIND_MUST = 14,
+    KIND_MAY_NOT = 15,
+    PAR_ZERO = 16,
+    SETTLES_BEFORE_TRADE = 17,
+    BAD_RECORD = 18,
+    SHORT_BUFFER = 19,
+    LONG_NARRATIVE = 20,
+    PAST_THE_END = 21
+};
+
+/* Code words, each list in the document's order; the blank record holds the first of each. */
+enum { KIND_INST, KIND_CANC, KIND_MDFC, KIND_TDDK };
+enum { SIDE_BUYI, SIDE_SELL };
+enum { WORD_SBOD, WORD_TFTD, WORD_STIP };
+
+/* A text is its bytes and its length, with zero bytes after. Length 0 is absent
+ * (in the password: blank). */
+struct text {
+    size_t length;
+    uint8_t bytes[WIDEST_TEXT];
+};
+
+/* All digits as one whole number, and how many of them are decimals. */
+struct amount {
+    uint64_t digits;
+    unsigned decimals;
+};
+
+/* Par and price have one form and are never taken for another. */
+struct par { struct amount amount; };
+struct price { struct amount amount; };
+
+struct date { unsigned year, month, day; };
+struct daytime { unsigned hour, minute, second; };
+struct moment { struct date date; struct daytime time; };
+
+struct party {
+    struct text code;      /* 95R, exactly 4 c */
+    struct text contra;    /* 20C PROC, contra reference */
+    struct text tdid;      /* 70C PACO */
+};
+
+struct record {
+    int kind;                    /* 22F PROC; 23G follows from it */
+    struct text password;        /* length 0 is the blank password */
+    struct text sender;
+    struct text reference;       /* SEME */
+    int prep_present;            /* 0 or 1 */
+    struct moment prep;
+    struct text mast, prev, list;
+    struct moment trade;
+    struct date settlement;
+    struct price price;
+    int side;                    /* BUSE */
+    struct party buyer, seller;
+    struct par par;
+    struct text identifier;      /* 35B */
+    struct text pool;            /* FIA */
+    int word;                    /* TDSV */
+    int gupp_present;            /* 0 or 1; GUPP 0 is present */
+    unsigned gupp;
+    struct text dkrs;
+};
+
+/* A number and a line, counted from 1; line 0 where the number has none. */
+struct answer { int number; size_t line; };
+
+/* Write and plain form: on refusal length is 0 and no byte of the buffer changes. */
+struct written { int number; size_t line; size_t length; };
+
+/* One field: a stretch of the caller's own message; 0 and 0 for none. */
+struct stretch { size_t offset; size_t length; };
+
+/* Batch: a message, "done", or number 21. */
+enum { NEXT_MESSAGE, NEXT_DONE, NEXT_PAST };
+struct next { int state; struct answer answer; size_t position; };
+
+void second_blank(struct record *record);
+struct answer second_read(const uint8_t *message, size_t length, struct record *record);
+struct written second_plain(const uint8_t *message, size_t length, uint8_t *buffer, size_t room);
+struct written second_write(const struct record *record, uint8_t *buffer, size_t room);
+struct next second_next(const uint8_t *batch, size_t length, size_t position, struct record *record);
+struct stretch second_field(const uint8_t *message, size_t length, unsigned field);
+
+/* The shortest form of an amount, ended by a zero byte. */
+void second_amount_text(const struct amount *amount, char out[WIDEST_AMOUNT + 8]);
+const char *second_kind_text(int kind);
+
+/* One line of the lister, and the whole of what it prints. */
+void second_lister_line(FILE *out, size_t message, struct answer answer, const struct record *record);
+void second_lister(FILE *out, const uint8_t *input, size_t length);
+
+#endif
