@@ -1,0 +1,15 @@
+-- The sample's rows are what document 01 prints, by computation. Assumes nothing.
+use mathlib.Core.Path.{refl}
+use Rattle.text.specs.Bytes.{bytes}
+use Rattle.text.specs.Texts.{contents, textOf}
+use Rattle.digits.specs.Numerals.{digits}
+use Rattle.amount.specs.Amounts.{trimmed}
+use Rattle.trade.specs.Records.{nobody, blankTrade}
+use Rattle.values.specs.Values.{kindWord}
+use Rattle.mt515.specs.Cases.{tradeOfB}
+use Rattle.listing.specs.Rows.{spaced, heading, decimal, shown, told, untold, fieldsOf, rowOf}
+use Rattle.listing.specs.Cases.{Answered}
+
+pub answered : Answered
+unfolding bytes contents textOf digits trimmed nobody blankTrade kindWord tradeOfB spaced heading decimal shown told untold fieldsOf rowOf
+answered = (refl, refl, refl, refl)

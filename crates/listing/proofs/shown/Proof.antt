@@ -1,0 +1,27 @@
+-- `listing::shown` meets its contract. Assumes nothing.
+use mathlib.Core.Path.{_≡_, sym, _∙_}
+use lib.ListN.{length}
+use Rattle.text.specs.Bytes.{bytes}
+use Rattle.listing.proofs.Laws.{none-is, shown-none, shown-some}
+use borrow.Author.Needs.{needs}
+use Rattle.listing.proofs.shown.Statement.{statement}
+use Rattle.listing.proofs.shown.Tie as tie
+
+slice-aggregate-of : tie.Need-slice-aggregate-of
+slice-aggregate-of c = search needs
+
+of-requires : tie.Need-of-requires
+of-requires c κs = search needs
+
+returns : tie.Need-returns
+unfolding bytes
+returns c = none-is _ (c .of .ensures) ∙ sym (shown-none _ (c .before .before .if1 .taken))
+
+returns-2 : tie.Need-returns-2
+returns-2 c =
+    let a = c .before .before .args in
+    let n : length (a .text .bytes) ≡ 20 = search needs in
+    shown-some _ n (c .if1 .left)
+
+pub shown-spec : {M : Type 1} → statement M
+shown-spec = tie.close (tie.spec slice-aggregate-of of-requires returns returns-2)

@@ -1,0 +1,141 @@
+// What the desk's lister prints: the heading, and a row for each message of a batch.
+//
+// What is right stands in specs/Rows. A row is held as seven texts, and composed in a line that has room for every one before
+// it goes to the caller's buffer, so that half of a row is never seen.
+use mt515::Reading;
+use text::Text;
+use trade::Trade;
+ghost use mathlib.Core.Path.{_≡_};
+ghost use Prim.Native.Nat.{_≤_};
+ghost use lib.ListN.{length};
+ghost use Rattle.text.specs.Copy.{placed, after};
+ghost use Rattle.text.specs.Texts.{contents};
+ghost use Rattle.amount.specs.Amounts.{noughts};
+ghost use Rattle.values.specs.Values.{kindWord};
+ghost use Rattle.message.specs.Walks.{overRun, behindRun};
+ghost use Rattle.listing.specs.Rows.{spaced, heading, decimal, shown, fieldsOf, rowOf};
+ghost use Rattle.listing.specs.Walks.{fieldsIn, parted, partsOf};
+
+// The seven fields of a row.
+struct Row {
+    message: Text,
+    number: Text,
+    line: Text,
+    kind: Text,
+    mast: Text,
+    buyer: Text,
+    seller: Text,
+}
+
+// How many noughts stand in front.
+fn leading(part: &[u8]) -> usize
+    ensures { λ r. ⌜ r ≡ noughts (now (part .entry)) ⌝ }
+{
+    let mut i = 0;
+    while i < part.len() {
+        if part[i] != b'0' {
+            return i;
+        }
+        i += 1;
+    }
+    i
+}
+
+// A number without needless noughts in front; zero keeps one.
+fn decimal(number: u64) -> Text
+    ensures { λ r. ⌜ contents r ≡ decimal number ⌝ }
+{
+    let mut all = [b'0'; 20];
+    digits::put_digits(&mut all, 0, 20, number);
+    let from = leading(&all[..19]);
+    Text::of(&all[from..])
+}
+
+// `-` for what is absent.
+fn shown(text: Text) -> Text
+    ensures { λ r. ⌜ contents r ≡ shown (contents text) ⌝ }
+{
+    if text.len == 0 {
+        return Text::of(b"-");
+    }
+    text
+}
+
+// The word of a record's kind: the value of its slot 11.
+fn kind_text(trade: Trade) -> Text
+    ensures { λ r. ⌜ contents r ≡ kindWord (trade .kind) ⌝ }
+{
+    let mut bytes = [0u8; 20];
+    let len = values::put_value(&mut bytes, 0, trade, 11);
+    Text { bytes, len }
+}
+
+// The fields of a row; of what is refused no field of the record.
+fn row_of(message: u64, reading: Reading) -> Row
+    ensures { λ r. ⌜ fieldsIn r ≡ fieldsOf message reading ⌝ }
+{
+    let message = decimal(message);
+    let number = decimal(reading.number);
+    let line = decimal(reading.line as u64);
+    if reading.number != 0 {
+        let none = Text::of(b"-");
+        return Row {
+            message,
+            number,
+            line,
+            kind: none,
+            mast: none,
+            buyer: none,
+            seller: none,
+        };
+    }
+    Row {
+        message,
+        number,
+        line,
+        kind: kind_text(reading.trade),
+        mast: shown(reading.trade.mast),
+        buyer: shown(reading.trade.buyer.code),
+        seller: shown(reading.trade.seller.code),
+    }
+}
+
+// A field and the blank behind it.
+fn put_field(line: &mut [u8], at: usize, field: Text) -> usize
+    ensures { λ r. ⌜ (r ≡ behindRun (now (line .entry)) at (parted (contents field))) × (now (line .exit) ≡ overRun (now (line .entry)) at (parted (contents field))) ⌝ }
+{
+    let end = text::put_text(line, at, field);
+    text::put(line, end, b" ")
+}
+
+// The fields one behind the other; LF behind the last. They are seven texts, and a byte behind each.
+fn compose(line: &mut [u8], row: Row) -> usize
+    ensures { λ r. ⌜ (r ≡ behindRun (now (line .entry)) 0 (partsOf row)) × (now (line .exit) ≡ overRun (now (line .entry)) 0 (partsOf row)) × (length (spaced (fieldsIn row)) ≤ 147) ⌝ }
+{
+    let number = put_field(line, 0, row.message);
+    let place = put_field(line, number, row.number);
+    let kind = put_field(line, place, row.line);
+    let mast = put_field(line, kind, row.kind);
+    let buyer = put_field(line, mast, row.mast);
+    let seller = put_field(line, buyer, row.buyer);
+    let end = text::put_text(line, seller, row.seller);
+    text::put(line, end, b"\n")
+}
+
+// Puts the heading at the start of a lent buffer, as `text::put` puts a part.
+pub fn put_heading(buf: &mut [u8]) -> usize
+    ensures { λ r. ⌜ (r ≡ after (now (buf .entry)) 0 heading) × (now (buf .exit) ≡ placed (now (buf .entry)) 0 heading) ⌝ }
+{
+    text::put(buf, 0, b"MSG CODE LINE KIND MAST BUYR SELL\n")
+}
+
+// Puts the row of a message, given its place in the batch and its reading, at the start of a lent buffer, as `text::put` puts a
+// part. A buffer of 147 bytes has room for every row.
+pub fn put_row(buf: &mut [u8], message: u64, reading: Reading) -> usize
+    ensures { λ r. ⌜ (r ≡ after (now (buf .entry)) 0 (rowOf message reading)) × (now (buf .exit) ≡ placed (now (buf .entry)) 0 (rowOf message reading)) × (length (rowOf message reading) ≤ 147) ⌝ }
+{
+    let row = row_of(message, reading);
+    let mut line = [0u8; 147];
+    let end = compose(&mut line, row);
+    text::put(buf, 0, &line[..end])
+}
