@@ -1,6 +1,6 @@
 #!/bin/sh
-# A second program, written in C from document 01 alone, holds against what the document prints; and it and the project's reader,
-# which `vectors` runs, answer alike on generated messages.
+# A second program, written in C without sight of crates/, holds against what document 01 prints; and it and the project's
+# reader, which `vectors` runs, answer alike on generated messages.
 # Usage: tests/second.sh [SEED COUNT]
 set -eu
 cd "$(dirname "$0")/.."
