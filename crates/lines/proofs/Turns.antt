@@ -113,9 +113,9 @@ module _ (b : ℕ) (s : List ℕ) where
     unfolding isBetween
     stands-low h = rw (lt-leb 32 b h) at stands-other
 
-    pub stands-high : 32 ≤ b → leb b 126 ≡ mayStand b s
-    unfolding isBetween
-    stands-high h = rw (le-leb 32 b h) at stands-other
+  pub stands-high : 32 ≤ b → leb b 126 ≡ mayStand b s
+  unfolding isBetween
+  stands-high h = rw (le-leb 32 b h) at (stands-other (λ e. omega (arith, h, e)) (λ e. omega (arith, h, e)))
 
 -- ---- the bytes, from a place on
 

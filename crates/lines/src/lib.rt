@@ -58,22 +58,22 @@ pub fn line_at(message: &[u8], at: usize) -> Line
     Line { end, next: at + n }
 }
 
-// The byte at a place may stand there.
+// The byte at a place may stand there. What nearly every byte is, is asked first.
 fn may_stand(message: &[u8], at: usize) -> bool
     requires { ⌜ at < length (now message) ⌝ }
     ensures { λ r. ⌜ r ≡ mayStand (getD (now (message .entry)) at 0) (drop (at + 1) (now (message .entry))) ⌝ }
 {
     let byte = message[at];
+    if 32 <= byte {
+        return byte <= 126;
+    }
     if byte == b'\n' {
         return true;
     }
     if byte == b'\r' {
         return text::begins_with(&message[at + 1..], b"\n");
     }
-    if byte < 32 {
-        return false;
-    }
-    byte <= 126
+    false
 }
 
 // 2, at the first line with a byte that may not stand where it stands.

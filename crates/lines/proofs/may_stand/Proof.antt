@@ -11,7 +11,10 @@ shared-slice-read-byte : tie.Need-shared-slice-read-byte
 shared-slice-read-byte c = search needs
 
 returns : tie.Need-returns
-returns c = stands-lf _ _ (c .if1 .taken)
+returns c = stands-high _ _ (c .if1 .taken)
+
+returns-2 : tie.Need-returns-2
+returns-2 c = stands-lf _ _ (c .if2 .taken)
 
 add-begins-with : tie.Need-add-begins-with
 add-begins-with c = search needs
@@ -31,17 +34,14 @@ slice-aggregate-begins-with c = search needs
 begins-with-requires : tie.Need-begins-with-requires
 begins-with-requires c κs = search needs
 
-returns-2 : tie.Need-returns-2
-unfolding bytes
-returns-2 c =
-    let a = c .before .before .before .before .before .before .before .args in
-    c .begins-with .ensures ∙ rw rest-of (stands-cr _ _ (c .before .before .before .if2 .taken))
-
 returns-3 : tie.Need-returns-3
-returns-3 c = stands-low _ _ (c .before .before .if1 .left) (c .before .if2 .left) (c .if3 .taken)
+unfolding bytes
+returns-3 c =
+    let a = c .before .before .before .before .before .before .before .before .args in
+    c .begins-with .ensures ∙ rw rest-of (stands-cr _ _ (c .before .before .before .if3 .taken))
 
 returns-4 : tie.Need-returns-4
-returns-4 c = stands-high _ _ (c .before .before .if1 .left) (c .before .if2 .left) (c .if3 .left)
+returns-4 c = stands-low _ _ (c .before .if2 .left) (c .if3 .left) (c .before .before .if1 .left)
 
 pub may-stand-spec : {M : Type 1} → statement M
 may-stand-spec =
@@ -49,12 +49,12 @@ may-stand-spec =
     (tie.spec
     shared-slice-read-byte
     returns
+    returns-2
     add-begins-with
     sub-begins-with
     part-begins-with-start
     part-begins-with-end
     slice-aggregate-begins-with
     begins-with-requires
-    returns-2
     returns-3
     returns-4)
