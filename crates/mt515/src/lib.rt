@@ -45,7 +45,15 @@ pub fn read(message: &[u8]) -> Reading
     if blocks.number != 0 {
         return refuse(blocks);
     }
-    let body = walk::walk(message, head.behind, head.first, head.second, head.end);
+    let body = walk::walk(
+        message,
+        &table::TABLE,
+        &table::SLOTS,
+        head.behind,
+        head.first,
+        head.second,
+        head.end,
+    );
     let values = body.verdict;
     if values.number != 0 {
         return refuse(values);

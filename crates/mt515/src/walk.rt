@@ -1,5 +1,6 @@
 // The walk over the lines behind the header: each is held against the table, its value judged, and its place kept.
 use layout::Place;
+use layout::Step;
 use lines::Verdict;
 ghost use mathlib.Core.Path.{_≡_};
 ghost use mathlib.Core.Bool.{cond};
@@ -9,9 +10,11 @@ ghost use lib.ListN.{length, drop, set};
 ghost use Rattle.lines.specs.Lines.{linesOf};
 ghost use Rattle.lines.specs.Verdicts.{then};
 ghost use Rattle.trade.specs.Stretches.{between};
-ghost use Rattle.table.specs.Values.{valueVerdict};
+ghost use Rattle.layout.specs.Layout.{stepOf};
+ghost use Rattle.table.specs.Table.{table, fixedOf};
+ghost use Rattle.table.specs.Values.{numberOf, valueVerdict};
 ghost use Rattle.mt515.specs.Body.{lineOf};
-ghost use Rattle.mt515.specs.Walks.{Walked};
+ghost use Rattle.mt515.specs.Walks.{IsTable, AreSlots, Walked};
 
 // What a walk comes to: a verdict, and where the value of each slot begins and ends.
 pub(crate) struct Body {
@@ -38,8 +41,43 @@ fn mark(seen: &mut [u8], slot: usize)
     }
 }
 
+// What a line does at a place of the table.
+fn step_at<'a, 'b>(rows: &'a [u8], here: Place, seen: &'b [u8], line: &'b [u8]) -> Step
+    requires { ⌜ IsTable (now rows) ⌝ }
+    ensures { λ r. ⌜ r ≡ stepOf table here (now (seen .entry)) (now (line .entry)) ⌝ }
+{
+    layout::next_step(rows, here, seen, line)
+}
+
+// How long the fixed text of a slot is.
+fn fixed_length(slots: &[u8], slot: usize) -> usize
+    requires { ⌜ AreSlots (now slots) ⌝ }
+    ensures { λ r. ⌜ r ≡ length (fixedOf slot) ⌝ }
+{
+    forms::fixed_text(slots, slot).len()
+}
+
+// The number of a value by its slot; the narrative has a form of its own.
+fn number_of(slots: &[u8], slot: usize, value: &[u8]) -> u64
+    requires { ⌜ AreSlots (now slots) ⌝ }
+    ensures { λ r. ⌜ r ≡ numberOf slot (now (value .entry)) ⌝ }
+{
+    if slot != 21 {
+        return forms::judge(slots, slot, value);
+    }
+    if !text::begins_with(value, b"//GSCC") {
+        return forms::judge(slots, slot, value);
+    }
+    if trade::narrative::is_narrative(&value[6..]) {
+        0
+    } else {
+        10
+    }
+}
+
 // The first fault of the values, after one more value; slot 0 has none.
-fn first_fault(fault: Verdict, slot: usize, value: &[u8], line: usize) -> Verdict
+fn first_fault(slots: &[u8], fault: Verdict, slot: usize, value: &[u8], line: usize) -> Verdict
+    requires { ⌜ AreSlots (now slots) ⌝ }
     ensures { λ r. ⌜ r ≡ cond (eqb slot 0) fault (then fault (valueVerdict slot line (now (value .entry)))) ⌝ }
 {
     if slot == 0 {
@@ -48,17 +86,26 @@ fn first_fault(fault: Verdict, slot: usize, value: &[u8], line: usize) -> Verdic
     if fault.number != 0 {
         return fault;
     }
-    let number = table::number_of(slot, value);
+    let number = number_of(slots, slot, value);
     if number == 0 {
         return Verdict::PASS;
     }
     Verdict { number, line }
 }
 
-// Walks the lines from a place on, the fifth line of the message. Of its first two lines, `first` is the end of the one, and
-// `second` and `end` are the start and end of the other.
-pub(crate) fn walk(message: &[u8], from: usize, first: usize, second: usize, end: usize) -> Body
-    requires { ⌜ (from ≤ length (now message)) × (linesOf (drop from (now message)) ≡ drop 4 (linesOf (now message))) × (between (now message) 0 first ≡ lineOf (now message) 0) × (between (now message) second end ≡ lineOf (now message) 1) ⌝ }
+// Walks the lines from a place on, the fifth line of the message, against the table, whose bytes are lent so that they are
+// laid down once. Of the first two lines, `first` is the end of the one, and `second` and `end` are the start and end of the
+// other.
+pub(crate) fn walk(
+    message: &[u8],
+    rows: &[u8],
+    slots: &[u8],
+    from: usize,
+    first: usize,
+    second: usize,
+    end: usize,
+) -> Body
+    requires { ⌜ IsTable (now rows) × AreSlots (now slots) × (from ≤ length (now message)) × (linesOf (drop from (now message)) ≡ drop 4 (linesOf (now message))) × (between (now message) 0 first ≡ lineOf (now message) 0) × (between (now message) second end ≡ lineOf (now message) 1) ⌝ }
     ensures { λ r. ⌜ Walked (now (message .entry)) r ⌝ }
 {
     let mut starts = [0usize; 32];
@@ -74,7 +121,7 @@ pub(crate) fn walk(message: &[u8], from: usize, first: usize, second: usize, end
     while at < message.len() {
         let line = lines::line_at(message, at);
         let stop = line.end;
-        let step = table::step_at(here, &seen, &message[at..stop]);
+        let step = step_at(rows, here, &seen, &message[at..stop]);
         let number = step.number;
         if number != 0 {
             let verdict = Verdict { number, line: n };
@@ -86,8 +133,8 @@ pub(crate) fn walk(message: &[u8], from: usize, first: usize, second: usize, end
         }
         let slot = step.slot;
         let value = at + step.width;
-        fault = first_fault(fault, slot, &message[value..stop], n);
-        keep(&mut starts, slot, value + table::fixed_length(slot));
+        fault = first_fault(slots, fault, slot, &message[value..stop], n);
+        keep(&mut starts, slot, value + fixed_length(slots, slot));
         keep(&mut ends, slot, stop);
         mark(&mut seen, slot);
         here = step.place;

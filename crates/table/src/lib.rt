@@ -4,10 +4,8 @@ use layout::Place;
 use layout::Step;
 ghost use mathlib.Core.Path.{_≡_};
 ghost use lib.ListN.{length};
-ghost use Rattle.forms.specs.Forms.{valueNumber};
 ghost use Rattle.layout.specs.Layout.{stepOf};
-ghost use Rattle.table.specs.Table.{table, slotOf, fixedOf};
-ghost use Rattle.table.specs.Values.{numberOf};
+ghost use Rattle.table.specs.Table.{table, fixedOf};
 
 // Sixteen bytes a row: its kind, its slot, the length of its text, the text.
 pub const TABLE: [u8; 624] = *b"\x03\x00\x09:16R:GENL    \
@@ -96,28 +94,4 @@ pub fn fixed_length(slot: usize) -> usize
     ensures { λ r. ⌜ r ≡ length (fixedOf slot) ⌝ }
 {
     forms::fixed_text(&SLOTS, slot).len()
-}
-
-// The number of a value by its slot, the narrative left to its own form.
-fn plain_number(slot: usize, value: &[u8]) -> u64
-    ensures { λ r. ⌜ r ≡ valueNumber (slotOf slot) (now (value .entry)) ⌝ }
-{
-    forms::judge(&SLOTS, slot, value)
-}
-
-// The number of a value by its slot.
-pub fn number_of(slot: usize, value: &[u8]) -> u64
-    ensures { λ r. ⌜ r ≡ numberOf slot (now (value .entry)) ⌝ }
-{
-    if slot != 21 {
-        return plain_number(slot, value);
-    }
-    if !text::begins_with(value, b"//GSCC") {
-        return plain_number(slot, value);
-    }
-    if trade::narrative::is_narrative(&value[6..]) {
-        0
-    } else {
-        10
-    }
 }

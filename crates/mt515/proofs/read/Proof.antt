@@ -1,5 +1,9 @@
 -- `mt515::read` meets its contract: the first pass that finds something wrong decides. Assumes nothing.
-use mathlib.Core.Path.{_∙_}
+use mathlib.Core.Path.{refl, _∙_}
+use Rattle.text.specs.Bytes.{bytes, parts}
+use Rattle.layout.specs.Rows.{rowOf, keyOf, firstRow, rowsOf}
+use Rattle.forms.specs.Slots.{wordsOf, formOf, slotAt}
+use Rattle.table.specs.Table.{table, slots}
 use Rattle.mt515.proofs.Chain.{refused-1, refused-2, refused-3, refused-4, judged-is}
 use borrow.Author.Needs.{needs}
 use Rattle.mt515.proofs.read.Statement.{statement}
@@ -38,8 +42,18 @@ returns-3 c =
     c .refuse3 .ensures
     ∙ refused-3 _ _ (h .before .before .before .check .ensures) (h .before .if1 .left) _ (h .read-header .ensures .verdict) (n .before .if2 .left) _ (n .nesting .ensures) (c .before .if3 .taken)
 
+slice-aggregate-walk : tie.Need-slice-aggregate-walk
+slice-aggregate-walk c = search needs
+
+slice-aggregate-walk-2 : tie.Need-slice-aggregate-walk-2
+slice-aggregate-walk-2 c = search needs
+
+-- the bytes that are lent are the table and its slots, by computation
 walk-requires : tie.Need-walk-requires
-walk-requires c κs = search needs
+unfolding bytes parts rowOf keyOf firstRow rowsOf table wordsOf formOf slotAt slots
+walk-requires c κs =
+    let h = c .before .before .before .before .before .before .before .before .read-header .ensures in
+    (refl, (refl, refl), h .within, h .rest, h .first, h .second)
 
 refuse-requires-4 : tie.Need-refuse-requires-4
 refuse-requires-4 c κs = search needs
@@ -47,10 +61,10 @@ refuse-requires-4 c κs = search needs
 returns-4 : tie.Need-returns-4
 returns-4 c =
     let w = c .before .before .before .before in
-    let n = w .before .before .before in
+    let n = w .before .before .before .before .before in
     let h = n .before .before .before .before in
     c .refuse4 .ensures
-    ∙ refused-4 _ _ (h .before .before .before .check .ensures) (h .before .if1 .left) _ (h .read-header .ensures .verdict) (n .before .if2 .left) _ (n .nesting .ensures) (w .before .if3 .left) _
+    ∙ refused-4 _ _ (h .before .before .before .check .ensures) (h .before .if1 .left) _ (h .read-header .ensures .verdict) (n .before .if2 .left) _ (n .nesting .ensures) (w .before .before .before .if3 .left) _
     (w .walk .ensures .verdict) (c .before .if4 .taken)
 
 slice-aggregate-judge : tie.Need-slice-aggregate-judge
@@ -66,10 +80,10 @@ returns-5 : tie.Need-returns-5
 returns-5 c =
     let e = c .before .before .before .before .before in
     let w = e .before .before .before in
-    let n = w .before .before .before in
+    let n = w .before .before .before .before .before in
     let h = n .before .before .before .before in
     c .judge .ensures
-    ∙ judged-is _ _ (h .before .before .before .check .ensures) (h .before .if1 .left) _ (h .read-header .ensures .verdict) (n .before .if2 .left) _ (n .nesting .ensures) (w .before .if3 .left) _
+    ∙ judged-is _ _ (h .before .before .before .check .ensures) (h .before .if1 .left) _ (h .read-header .ensures .verdict) (n .before .if2 .left) _ (n .nesting .ensures) (w .before .before .before .if3 .left) _
     (w .walk .ensures .verdict) (e .if4 .left) _ (w .walk .ensures .values (e .if4 .left))
 
 pub read-spec : {M : Type 1} → statement M
@@ -85,6 +99,8 @@ read-spec =
     nesting-requires
     refuse-requires-3
     returns-3
+    slice-aggregate-walk
+    slice-aggregate-walk-2
     walk-requires
     refuse-requires-4
     returns-4

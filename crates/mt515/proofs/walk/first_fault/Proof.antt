@@ -15,7 +15,7 @@ unfolding then valueVerdict pass refused
 returns-2 c = rw (ne-eqb _ _ (c .before .before .if1 .left), ne-eqb _ _ (c .if2 .taken))
 
 number-of-requires : tie.Need-number-of-requires
-number-of-requires c κs = search needs
+number-of-requires c κs = c .before .before .before .before .before .pre
 
 returns-3 : tie.Need-returns-3
 unfolding then valueVerdict pass refused

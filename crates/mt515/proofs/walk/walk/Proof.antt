@@ -19,16 +19,16 @@ use Rattle.mt515.proofs.walk.walk.Statement.{statement}
 use Rattle.mt515.proofs.walk.walk.Tie as tie
 
 abbrev Inv-loop : tie.InvT-loop
-Inv-loop message from first second end starts₀ ends₀ seen₀ here₀ fault₀ at₀ n₀ starts ends seen here fault at n = Kept message starts ends seen here fault at n
+Inv-loop message rows slots from first second end starts₀ ends₀ seen₀ here₀ fault₀ at₀ n₀ starts ends seen here fault at n = Kept message starts ends seen here fault at n
 
 abbrev μ-loop : tie.MeasureT-loop
-μ-loop message from first second end starts₀ ends₀ seen₀ here₀ fault₀ at₀ n₀ starts ends seen here fault at n = length message - at
+μ-loop message rows slots from first second end starts₀ ends₀ seen₀ here₀ fault₀ at₀ n₀ starts ends seen here fault at n = length message - at
 
 -- where the line stands, and what is known of its step
-place : (l : tie.After-line-at Inv-loop μ-loop) → Located (now (l .before .before .before .before .args .message)) (l .before .before .loop .at) (l .line-at .result .end) (l .line-at .result .next)
+place : (l : tie.After-line-at Inv-loop μ-loop) → Located (now (l .before .before .before .before .before .before .args .message)) (l .before .before .loop .at) (l .line-at .result .end) (l .line-at .result .next)
 place l = located _ _ _ (l .line-at .ensures) (l .before .loop-test .taken)
 
-stops : (l : tie.After-line-at Inv-loop μ-loop) → l .line-at .result .end ≤ length (now (l .before .before .before .before .args .message))
+stops : (l : tie.After-line-at Inv-loop μ-loop) → l .line-at .result .end ≤ length (now (l .before .before .before .before .before .before .args .message))
 stops l = let a = place l .ends in let b = place l .within in omega arith
 
 within : (s : tie.After-step-at Inv-loop μ-loop) → s .before .before .before .before .before .loop .at + s .step-at .result .width ≤ s .before .before .before .line-at .result .end
@@ -49,8 +49,8 @@ array-write-ends-2 c = search needs
 loop-holds : tie.Need-loop-holds Inv-loop μ-loop
 unfolding pass refused
 loop-holds c =
-    let s = c .before in
-    begin (s .args .message .now) (s .args .from) (s .args .first) (s .args .second) (s .args .end) (s .pre .0) (s .pre .1) (s .pre .2) (s .pre .3)
+    let s = c .before .before .before in
+    begin (s .args .message .now) (s .args .from) (s .args .first) (s .args .second) (s .args .end) (s .pre .2) (s .pre .3) (s .pre .4) (s .pre .5)
 
 line-at-requires : tie.Need-line-at-requires Inv-loop μ-loop
 line-at-requires c κs = search needs
@@ -68,7 +68,7 @@ part-step-at-end : tie.Need-part-step-at-end Inv-loop μ-loop
 part-step-at-end c = stops (c .before)
 
 step-at-requires : tie.Need-step-at-requires Inv-loop μ-loop
-step-at-requires c κs = search needs
+step-at-requires c κs = c .before .before .before .before .before .before .before .before .pre .0
 
 returns : tie.Need-returns Inv-loop μ-loop
 unfolding refused
@@ -94,13 +94,13 @@ part-first-fault-end : tie.Need-part-first-fault-end Inv-loop μ-loop
 part-first-fault-end c = stops (c .before .before .before .before .before)
 
 first-fault-requires : tie.Need-first-fault-requires Inv-loop μ-loop
-first-fault-requires c κs = search needs
+first-fault-requires c κs = c .before .before .before .before .before .before .before .before .before .before .before .before .pre .1
 
 slice-aggregate-keep : tie.Need-slice-aggregate-keep Inv-loop μ-loop
 slice-aggregate-keep c = search needs
 
 fixed-length-requires : tie.Need-fixed-length-requires Inv-loop μ-loop
-fixed-length-requires c κs = search needs
+fixed-length-requires c κs = c .before .before .before .before .before .before .before .before .before .before .before .before .before .before .pre .1
 
 add-keep : tie.Need-add-keep Inv-loop μ-loop
 add-keep c = let w = within (c .before .before .before .before .before .before) in let t = stops (c .before .before .before .before .before .before .before .before .before) in omega (arith, c .fixed-length .ensures, fixed-short (c .before .before .before .before .before .before .step-at .result .slot))
@@ -125,7 +125,7 @@ add-n c =
     let l = c .before .before .before .before .before .before .before .before .before .before .before .before .before .before .before .before .before .before in
     let p = place l in
     let k = l .before .before .loop .inv in
-    omega (arith, k .counted, p .grows, p .within, l .before .before .before .before .good .0 .1)
+    omega (arith, k .counted, p .grows, p .within, l .before .before .before .before .before .before .good .0 .1)
 
 loop-less : tie.Need-loop-less Inv-loop μ-loop
 loop-less c = let p = place (c .before .before .before .before .before .before .before .before .before .before .before .before .before .before .before .before .before .before) in omega (arith, p .grows, p .within)
