@@ -3,7 +3,7 @@
 
 Every `pub fn` of every crate's sources has an `ensures` and no `requires`, but for the functions that docs/PROMISES.md lists
 under "## Functions with a requires", each with its reason; and every one of them is named in that file. So is every must-fail
-edit, by its name.
+edit, by its name, whether the gate tries it or tests/edits.
 
 Usage: promises.py ROOT           check the repository at ROOT
        promises.py --self-test    check this program on a made-up source
@@ -123,7 +123,7 @@ def check(root):
     page = root / 'docs' / 'PROMISES.md'
     if page.is_file():
         text = page.read_text(encoding='utf-8')
-        edits = [(path.relative_to(root), path.stem) for path in sorted(root.glob('crates/*/must-fail/*.edit'))]
+        edits = [(path.relative_to(root), path.stem) for path in sorted(root.glob('crates/*/must-fail*/*.edit'))]
         said = violations(found, text) + unnamed(edits, text)
     else:
         print('docs/PROMISES.md is not there: that it names every function is passed over')
