@@ -1,0 +1,71 @@
+-- B's fields are those of the table, by computation: B is accepted, so that its lines alone say them.
+-- Assumes nothing.
+use Prim.Native.Nat.{ℕ, _-_}
+use Prim.Native.String.{String}
+use mathlib.Core.Path.{_≡_, refl, ap, _∙_}
+use mathlib.Core.Bool.{cond}
+use mathlib.Core.List.{List, [], _∷_, map, head-eq-of-cons-eq, tail-eq-of-cons-eq}
+use lib.ListN.{length, drop}
+use Rattle.text.specs.Bytes.{bytes, begins, same, before}
+use Rattle.text.specs.Classes.{isBetween}
+use Rattle.lines.specs.Lines.{inFront, cutLines, bare, linesOf, lineAt}
+use Rattle.layout.specs.Layout.{Taken, fits, isSeen, lacks, beneath, against, look, onward, scan, stepOf, withTaken, marked, behind, runOf, layoutOf}
+use Rattle.table.specs.Table.{table, slots, slotOf}
+use Rattle.mt515.specs.Body.{bodyOf, takenIn}
+use Rattle.mt515.specs.Cases.{b, ended}
+use Rattle.mt515.specs.Reading.{readOf}
+use Rattle.mt515.specs.declared.Reading.{Reading}
+use Rattle.mt515.proofs.Cases.{answered as read-b}
+use Rattle.field.specs.Cases.{fields, offsets, Answered}
+use Rattle.field.specs.Field.{noLine, takenFor, asked, lineFor, frontOf, fieldOf, startBehind, endOf, placeOf}
+
+-- of an accepted message: the line of a slot, its value, and where that begins
+lineIn : List ℕ → ℕ → Taken
+lineIn m slot = cond (isBetween 1 21 slot) (takenFor slot (takenIn (bodyOf m))) noLine
+
+valueIn : List ℕ → ℕ → List ℕ
+valueIn m slot = drop (frontOf slot) (lineIn m slot .value)
+
+offsetIn : List ℕ → ℕ → ℕ
+offsetIn m slot = endOf m (lineIn m slot .line) - length (valueIn m slot)
+
+module _ (m : List ℕ) (z : readOf m .number ≡ 0) where
+  field-in : (slot : ℕ) → fieldOf m slot ≡ valueIn m slot
+  unfolding fieldOf lineFor asked lineIn valueIn
+  field-in slot = rw z
+
+  offset-in : (slot : ℕ) → placeOf m slot .offset ≡ offsetIn m slot
+  unfolding placeOf fieldOf lineFor asked lineIn valueIn offsetIn
+  offset-in slot = rw z
+
+  fields-in : (rows : List (ℕ × String)) → map (λ (row : ℕ × String). fieldOf m (row .0)) rows ≡ map (λ (row : ℕ × String). valueIn m (row .0)) rows
+  fields-in [] = refl
+  fields-in (row ∷ rows) = rw (field-in (row .0), fields-in rows)
+
+accepted : (readOf (ended "\n" b) .number ≡ 0) × (readOf (ended "\r\n" b) .number ≡ 0)
+accepted =
+    let e = read-b .1 in
+    (ap (λ (r : Reading). r .number) (head-eq-of-cons-eq e), ap (λ (r : Reading). r .number) (head-eq-of-cons-eq (tail-eq-of-cons-eq e)))
+
+values : map (λ (row : ℕ × String). valueIn (ended "\n" b) (row .0)) fields ≡ map (λ (row : ℕ × String). bytes (row .1)) fields
+unfolding bytes begins same before isBetween inFront cutLines bare linesOf lineAt fits isSeen lacks beneath against look onward scan stepOf withTaken marked behind runOf layoutOf table slots slotOf bodyOf takenIn b ended fields noLine takenFor frontOf startBehind endOf lineIn valueIn
+values = refl
+
+places : (offsetIn (ended "\n" b) 4 ≡ 108) × (offsetIn (ended "\r\n" b) 4 ≡ 117) × (offsetIn (ended "\n" b) 15 ≡ 306) × (offsetIn (ended "\r\n" b) 21 ≡ 470)
+unfolding bytes begins same before isBetween inFront cutLines bare linesOf lineAt fits isSeen lacks beneath against look onward scan stepOf withTaken marked behind runOf layoutOf table slots slotOf bodyOf takenIn b ended fields noLine takenFor frontOf startBehind endOf lineIn valueIn offsetIn
+places = (refl, refl, refl, refl)
+
+pub answered : Answered
+unfolding offsets
+answered =
+    let lf = ended "\n" b in
+    let crlf = ended "\r\n" b in
+    let (one, two, three, four) = places in (
+      fields-in lf (accepted .0) fields ∙ values,
+      rw (
+        offset-in lf (accepted .0) 4 ∙ one,
+        offset-in crlf (accepted .1) 4 ∙ two,
+        offset-in lf (accepted .0) 15 ∙ three,
+        offset-in crlf (accepted .1) 21 ∙ four,
+      ),
+    )

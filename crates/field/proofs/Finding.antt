@@ -1,0 +1,263 @@
+-- What a place and a field are to each other, to the message and to its record: the value is the end of its line, and the line is
+-- the one that the message's sheet has for the slot.
+-- Assumes nothing.
+use Prim.Native.Nat.{ℕ, suc, _+_, _-_, _≤_, _<_}
+use mathlib.Core.Path.{_≡_, refl, sym, ap, _∙_, subst}
+use mathlib.Core.Bool.{Bool, true, false, cond, true≢false}
+use mathlib.Core.List.{List, [], _∷_}
+use mathlib.Core.Logic.{_⊎_, inl, inr}
+use native.Mathlib.Nat.{add-zero}
+use native.Mathlib.Numerals.{add-one}
+use native.Mathlib.Omega.{arith}
+use lib.Dec.{leb, eqb}
+use lib.ListN.{length, take, drop, getD, length-take, length-drop}
+use lib.Seq.{drop-drop, getD-drop}
+use borrow.Author.Tests.{eq-eqb, ne-eqb, eqb-true, leb-true, leb-false}
+use Rattle.text.specs.Bytes.{bytes, begins}
+use Rattle.text.specs.Classes.{isBetween}
+use Rattle.text.proofs.Laws.{and-left, and-right}
+use Rattle.lines.specs.Lines.{linesOf, lineAt}
+use Rattle.layout.specs.Layout.{Taken, taken, stepOf, runOf, marked}
+use Rattle.layout.specs.declared.Place.{Place}
+use Rattle.sheets.specs.Sheets.{Entry, edge, held, come, has, takenIn as takenOf}
+use Rattle.sheets.specs.Filled.{valueIn}
+use Rattle.sheets.proofs.Small.{is-false, of-both, or-one, or-left, or-right, or-case}
+use Rattle.sheets.proofs.Emits.{come-more}
+use Rattle.sheets.proofs.Checks.{mustSlots, firstSlots}
+use Rattle.sheets.proofs.Once.{slotsHeld}
+use Rattle.sheets.proofs.Musts.{musts, come-held}
+use Rattle.table.specs.Table.{table, fixedOf}
+use Rattle.table.specs.Tree.{tree, general, pool, details}
+use Rattle.mt515.specs.Body.{lineOf, takenIn}
+use Rattle.mt515.specs.Reading.{readOf}
+use Rattle.mt515.proofs.Heads.{lined, between-is}
+use Rattle.mt515.proofs.Steps.{to-end}
+use Rattle.demands.specs.Lawful.{saidIn, Lawful}
+use Rattle.demands.proofs.Holds.{valued-at, not-header, no-length}
+use Rattle.demands.proofs.Accepting.{body-taken}
+use Rattle.demands.proofs.Demands.{demands}
+use Rattle.field.specs.Field.{noLine, takenFor, asked, lineFor, frontOf, fieldOf, startBehind, endOf, placeOf}
+use Rattle.field.specs.Finding.{nowhere, IsPart, IsRead, IsToldBehind, NoneRefused, NoneUnnamed, NoneAbsent, Finding}
+use Rattle.field.specs.declared.Stretch.{Stretch}
+use Rattle.field.proofs.Values.{told, told-begins, behind-front}
+use Rattle.field.proofs.Steps.{begins as begun, next, place-is, field-is, place-none, field-none, not-asked, refused-none, unnamed-none, asked-of, is-named, accepted, line-is, top, none-seen, body-run}
+
+-- ---- a field is a part of its message
+
+-- the end of a line, from behind some of its bytes
+module _ (m : List ℕ) (at end k : ℕ) (h : at ≤ end) (g : end ≤ length m) where
+  abbrev v : List ℕ
+  v = drop k (take (end - at) (drop at m))
+
+  long : length v ≡ end - at - k
+  long =
+      let a = length-take (end - at) (drop at m) in
+      let b = length-drop at m in
+      length-drop k (take (end - at) (drop at m)) ∙ omega arith
+
+  end-within : length (drop k (take (end - at) (drop at m))) ≤ end
+  end-within = let l = long in omega arith
+
+  end-part : take (length (drop k (take (end - at) (drop at m)))) (drop (end - length (drop k (take (end - at) (drop at m)))) m) ≡ drop k (take (end - at) (drop at m))
+  end-part = go (leb (at + k) end) refl
+    where
+      go : (t : Bool) → leb (at + k) end ≡ t → take (length v) (drop (end - length v) m) ≡ v
+      go true t =
+          let l = long in
+          let i : at + k ≤ end = leb-true (at + k) end t in
+          let o : end - length v ≡ at + k = omega arith in
+          let n : length v ≡ end - (at + k) = omega arith in
+          rw (o, n) (sym (between-is m (at + k) end i g) ∙ to-end m at end k h g)
+      go false t =
+          let l = long in
+          let i : end < at + k = leb-false (at + k) end t in
+          let n : v ≡ [] = no-length v (eq-eqb (length v) 0 (omega arith)) in
+          rw n
+
+-- a line that was taken is one of the message's, and its value the end of that line; or it is no line
+record Stood (m : List ℕ) (t : Taken) : Type 0 where
+  before : ℕ
+  width : ℕ
+  counted : t .line ≡ suc before
+  ends : t .value ≡ drop width (lineOf m before)
+
+front-line : (m l : List ℕ) (n : ℕ) (ls : List (List ℕ)) → l ∷ ls ≡ drop n (linesOf m) → (l ≡ lineOf m n) × (ls ≡ drop (suc n) (linesOf m))
+unfolding lineOf
+front-line m l n ls e = (
+  ap (λ (x : List (List ℕ)). getD x 0 []) e ∙ getD-drop n (linesOf m) 0 [] ∙ ap (λ (i : ℕ). getD (linesOf m) i []) (add-zero n),
+  ap (drop 1) e ∙ drop-drop 1 n (linesOf m) ∙ ap (λ (i : ℕ). drop i (linesOf m)) (add-one n),
+)
+
+stood-in : (m : List ℕ) (slot : ℕ) (ls : List (List ℕ)) (here : Place) (seen : List ℕ) (n : ℕ) (ts : List Taken) → ls ≡ drop n (linesOf m)
+    → runOf table here seen (suc n) ls ≡ taken ts → (takenFor slot ts ≡ noLine) ⊎ Stood m (takenFor slot ts)
+unfolding runOf takenFor takenIn
+stood-in m slot [] here seen n ts e r = let q : [] ≡ ts = ap takenIn r in inl (rw (← q))
+stood-in m slot (l ∷ ls) here seen n ts e r =
+    let step = stepOf table here seen l in
+    let rest = runOf table (step .place) (marked seen step) (suc (suc n)) ls in
+    let (us, q, p) = next (suc n) l step rest ts r in
+    let (f, g) = front-line m l n ls e in
+    let ih = stood-in m slot ls (step .place) (marked seen step) (suc n) us g q in
+    let t : Taken = record { slot = step .slot; line = suc n; value = drop (step .width) l } in
+    let this : Stood m t = record { before = n; width = step .width; counted = refl; ends = rw f } in
+    let P : Taken → Type 0 = λ (x : Taken). (x ≡ noLine) ⊎ Stood m x in
+    rw p (of-both (λ (x : List Taken). P (takenFor slot x)) (eqb (step .slot) 0) (λ z. ih) (λ z. of-both P (eqb (step .slot) slot) (λ y. inr this) (λ y. ih)))
+
+line-stood : (m : List ℕ) (slot : ℕ) → (lineFor m slot ≡ noLine) ⊎ Stood m (lineFor m slot)
+line-stood m slot = go (asked m slot) refl
+  where
+    go : (b : Bool) → asked m slot ≡ b → (lineFor m slot ≡ noLine) ⊎ Stood m (lineFor m slot)
+    go false h = inl (not-asked m slot h)
+    go true h =
+        let w = demands .accepts-lawful m .0 (accepted m slot h) in
+        let b = body-taken m (w .sheet) (w .laid) (w .lines) in
+        let ts = takenOf 5 (w .sheet) in
+        subst (λ (x : Taken). (x ≡ noLine) ⊎ Stood m x) (line-is m slot h ts b)
+        (stood-in m slot (drop 4 (linesOf m)) top none-seen 4 ts refl (body-run m (drop 4 (linesOf m)) refl ∙ b))
+
+-- a stretch of a message, and what stands there
+PartOf : List ℕ → List ℕ → Stretch → Type 0
+PartOf m v s = (s .offset + s .count ≤ length m) × (take (s .count) (drop (s .offset) m) ≡ v)
+
+stood-part : (m : List ℕ) (slot : ℕ) → Stood m (lineFor m slot) → PartOf m (fieldOf m slot) (placeOf m slot)
+unfolding PartOf endOf
+stood-part m slot d =
+    let n : ℕ = d .before in
+    let at : ℕ = startBehind m n in
+    let end : ℕ = lineAt m at .end in
+    let b = begun m n in
+    let p = lined m n at (lineAt m at) refl (b .within) (b .rest) in
+    let k : ℕ = d .width + frontOf slot in
+    let f : drop k (take (end - at) (drop at m)) ≡ fieldOf m slot =
+    rw (p .here) (sym (drop-drop (frontOf slot) (d .width) (lineOf m n)) ∙ ap (drop (frontOf slot)) (sym (d .ends)) ∙ field-is m slot (lineFor m slot) refl)
+    in let within : length (fieldOf m slot) ≤ end = rw f at (end-within m at end k (p .starts) (p .stops))
+    in let part : take (length (fieldOf m slot)) (drop (end - length (fieldOf m slot)) m) ≡ fieldOf m slot = rw f at (end-part m at end k (p .starts) (p .stops))
+    in subst (PartOf m (fieldOf m slot))
+    (place-is m slot (readOf m .number) (lineFor m slot) (end - length (fieldOf m slot)) (length (fieldOf m slot)) refl refl (ap length (field-is m slot (lineFor m slot) refl)) (rw (d .counted)))
+    (let s = p .stops in omega arith, part)
+
+is-part-of : (m : List ℕ) (slot : ℕ) → PartOf m (fieldOf m slot) (placeOf m slot)
+unfolding PartOf
+is-part-of m slot = go (line-stood m slot)
+  where
+    go : (lineFor m slot ≡ noLine) ⊎ Stood m (lineFor m slot) → PartOf m (fieldOf m slot) (placeOf m slot)
+    go (inl e) = subst (PartOf m (fieldOf m slot)) (place-none m slot (readOf m .number) refl e) (omega arith, sym (field-none m slot e))
+    go (inr d) = stood-part m slot d
+
+is-part : IsPart
+unfolding PartOf
+is-part m slot = is-part-of m slot
+
+-- the same of the code's answer
+module _ (m : List ℕ) (slot : ℕ) (r : Stretch) (is : r ≡ placeOf m slot) where
+  here : PartOf m (fieldOf m slot) r
+  here = subst (PartOf m (fieldOf m slot)) (sym is) (is-part-of m slot)
+
+  pub stretch-in : r .offset + r .count ≤ length m
+  unfolding PartOf
+  stretch-in = here .0
+
+  pub stretch-is : take (r .offset + r .count - r .offset) (drop (r .offset) m) ≡ fieldOf m slot
+  unfolding PartOf
+  stretch-is = let n : r .offset + r .count - r .offset ≡ r .count = omega arith in rw n (here .1)
+
+-- ---- a field is what the record was read from
+
+value-taken : (es : List Entry) (n slot : ℕ) → takenFor slot (takenOf n es) .value ≡ valueIn es slot
+unfolding takenFor takenOf valueIn noLine
+value-taken [] n slot = refl
+value-taken (edge o ∷ es) n slot = value-taken es (suc n) slot
+value-taken (held i k v ∷ es) n slot = go (eqb i slot) (value-taken es (suc n) slot)
+  where
+    go : (b : Bool) → takenFor slot (takenOf (suc n) es) .value ≡ valueIn es slot
+        → cond b (record { slot = i; line = n; value = v }) (takenFor slot (takenOf (suc n) es)) .value ≡ cond b v (valueIn es slot)
+    go true e = refl
+    go false e = e
+
+none-taken : (es : List Entry) (n slot : ℕ) → has (slotsHeld es) slot ≡ false → takenFor slot (takenOf n es) ≡ noLine
+unfolding takenFor takenOf slotsHeld has
+none-taken [] n slot h = refl
+none-taken (edge o ∷ es) n slot h = none-taken es (suc n) slot h
+none-taken (held i k v ∷ es) n slot h = rw (or-left (eqb i slot) _ h) (none-taken es (suc n) slot (or-right (eqb i slot) _ h))
+
+held-come : (es : List Entry) (slots : List ℕ) (s : ℕ) → has (slotsHeld es) s ≡ true → has (come slots es) s ≡ true
+unfolding slotsHeld has come
+held-come [] slots s h = absurd (true≢false (sym h))
+held-come (edge o ∷ es) slots s h = held-come es slots s h
+held-come (held i k v ∷ es) slots s h =
+    or-case (eqb i s) (has (slotsHeld es) s) h (λ e. come-more es (i ∷ slots) s (or-one (eqb i s) _ e)) (λ e. held-come es (i ∷ slots) s e)
+
+module _ (m : List ℕ) (w : Lawful m) (slot : ℕ) (named : isBetween 1 21 slot ≡ true) where
+  number-is : readOf m .number ≡ 0
+  number-is = demands .accepts-lawful m .1 w
+
+  lawful-line : takenFor slot (takenOf 5 (w .sheet)) ≡ lineFor m slot
+  lawful-line = line-is m slot (asked-of m slot number-is named) (takenOf 5 (w .sheet)) (body-taken m (w .sheet) (w .laid) (w .lines))
+
+  lawful-field : fieldOf m slot ≡ drop (frontOf slot) (valueIn (w .sheet) slot)
+  lawful-field = sym (field-is m slot _ (sym lawful-line)) ∙ ap (drop (frontOf slot)) (value-taken (w .sheet) 5 slot)
+
+  said : saidIn m (w .sheet) slot ≡ drop (length (fixedOf slot)) (valueIn (w .sheet) slot)
+  unfolding saidIn
+  said = rw (not-header slot named)
+
+  -- a value that is there is never empty
+  field-some : has (slotsHeld (w .sheet)) slot ≡ true → 0 < length (fieldOf m slot)
+  field-some h =
+      let v = valueIn (w .sheet) slot in
+      let f = behind-front slot v named (valued-at (w .sheet) slot (w .valued) h) in
+      let d = length-drop (frontOf slot) v in
+      let e = ap length lawful-field in
+      omega arith
+
+  absent-none : has (come [] (w .sheet)) slot ≡ false → placeOf m slot ≡ nowhere 0
+  absent-none h =
+      let n = is-false (has (slotsHeld (w .sheet)) slot) (λ e. true≢false (sym (held-come (w .sheet) [] slot e) ∙ h)) in
+      sym (place-none m slot 0 number-is (sym lawful-line ∙ none-taken (w .sheet) 5 slot n))
+
+  none-absent-at : placeOf m slot ≡ nowhere 0 → has (come [] (w .sheet)) slot ≡ false
+  unfolding placeOf has
+  none-absent-at e =
+      is-false (has (come [] (w .sheet)) slot)
+      (λ h. let s = field-some (come-held (w .sheet) [] slot h) in let c : length (fieldOf m slot) ≡ 0 = ap (λ (x : Stretch). x .count) e in let z : ⊥ = omega arith in z)
+
+is-read : IsRead
+unfolding isBetween frontOf
+is-read m w slot h =
+    let low = leb-true 1 slot (and-left (leb 1 slot) _ h) in
+    let high = leb-true slot 20 (and-right (leb 1 slot) _ h) in
+    let n : isBetween 1 21 slot ≡ true = is-named slot low (omega arith) in
+    let o : slot ≡ 21 → ⊥ = λ e. omega arith in
+    lawful-field m w slot n ∙ rw (ne-eqb slot 21 o, add-zero) (sym (said m w slot n))
+
+-- the narrative's last slot: the byte behind `GSCC` is `/`
+first-is : (x : ℕ) (key s : List ℕ) → begins (x ∷ key) s ≡ true → s ≡ x ∷ drop 1 s
+unfolding begins
+first-is x key [] h = absurd (true≢false (sym h))
+first-is x key (b ∷ s) h = rw (eqb-true b x (and-left _ _ h))
+
+told-stands : has (mustSlots tree) 21 ≡ true
+unfolding mustSlots firstSlots tree general pool details has
+told-stands = refl
+
+is-told-behind : IsToldBehind
+unfolding frontOf bytes
+is-told-behind m w =
+    let v = valueIn (w .sheet) 21 in
+    let n = is-named 21 (omega arith) (omega arith) in
+    let h = musts tree (w .sheet) 21 (w .laid) told-stands in
+    let t = told-begins (drop (length (fixedOf 21)) v) (told v (valued-at (w .sheet) 21 (w .valued) h)) in
+    said m w 21 n ∙ first-is 47 (bytes "TDSV") _ t
+    ∙ ap (λ (x : List ℕ). 47 ∷ x) (drop-drop 1 (length (fixedOf 21)) v ∙ sym (lawful-field m w 21 n))
+
+none-refused : NoneRefused
+none-refused m slot h = let e = refused-none m slot h in (sym (place-none m slot _ refl e), field-none m slot e)
+
+none-unnamed : NoneUnnamed
+none-unnamed m slot h = let e = unnamed-none m slot h in (sym (place-none m slot _ refl e), field-none m slot e)
+
+none-absent : NoneAbsent
+none-absent m w slot h = (none-absent-at m w slot h, absent-none m w slot h)
+
+pub finding : Finding
+finding = record { is-part = is-part; is-read = is-read; is-told-behind = is-told-behind; none-refused = none-refused; none-unnamed = none-unnamed; none-absent = none-absent }

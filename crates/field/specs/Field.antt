@@ -1,0 +1,60 @@
+-- Document 01, "One field": for a slot named by the caller the answer is that stretch of the caller's own message, the value after
+-- the fixed text (for 70E, what follows `GSCC/`). A refused message, a number that names no slot, or a slot it does not have gives
+-- the empty stretch at the message's start. Slots are numbered as in table's `specs/Table`: 21 have a value.
+use Prim.Native.Nat.{ℕ, zero, suc, _+_, _-_}
+use mathlib.Core.Bool.{Bool, _&&_, cond}
+use mathlib.Core.List.{List, [], _∷_}
+use lib.Dec.{eqb}
+use lib.ListN.{length, drop}
+use Rattle.text.specs.Classes.{isBetween}
+use Rattle.lines.specs.Lines.{lineAt}
+use Rattle.layout.specs.Layout.{Taken}
+use Rattle.table.specs.Table.{fixedOf}
+use Rattle.mt515.specs.Body.{bodyOf, takenIn}
+use Rattle.mt515.specs.Reading.{readOf}
+use Rattle.field.specs.declared.Stretch.{Stretch}
+
+-- ---- the line of a slot
+
+-- no line: lines are counted from 1
+unfoldable pub noLine : Taken
+noLine = record { slot = 0; line = 0; value = [] }
+
+-- the first of the lines that was taken for a slot
+unfoldable pub takenFor : ℕ → List Taken → Taken
+takenFor slot [] = noLine
+takenFor slot (t ∷ ts) = cond (eqb (t .slot) slot) t (takenFor slot ts)
+
+-- a message is asked for a slot that may have a value, and is accepted
+unfoldable pub asked : List ℕ → ℕ → Bool
+asked m slot = eqb (readOf m .number) 0 && isBetween 1 21 slot
+
+unfoldable pub lineFor : List ℕ → ℕ → Taken
+lineFor m slot = cond (asked m slot) (takenFor slot (takenIn (bodyOf m))) noLine
+
+-- ---- its value
+
+-- the bytes in front of the value: the fixed text, and behind 70E's the one that ends `GSCC/`
+unfoldable pub frontOf : ℕ → ℕ
+frontOf slot = length (fixedOf slot) + cond (eqb slot 21) 1 0
+
+unfoldable pub fieldOf : List ℕ → ℕ → List ℕ
+fieldOf m slot = drop (frontOf slot) (lineFor m slot .value)
+
+-- ---- and its place
+
+-- where the line behind so many lines of a message begins
+unfoldable pub startBehind : List ℕ → ℕ → ℕ
+startBehind m zero = 0
+startBehind m (suc n) = lineAt m (startBehind m n) .next
+
+-- where the text of a line ends, and 0 for no line
+unfoldable pub endOf : List ℕ → ℕ → ℕ
+endOf m zero = 0
+endOf m (suc n) = lineAt m (startBehind m n) .end
+
+-- a value is the end of its line
+unfoldable pub placeOf : List ℕ → ℕ → Stretch
+placeOf m slot =
+    let count = length (fieldOf m slot) in
+    record { number = readOf m .number; offset = endOf m (lineFor m slot .line) - count; count = count }
