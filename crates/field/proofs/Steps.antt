@@ -13,22 +13,20 @@ use lib.Seq.{drop-nil, drop-drop}
 use borrow.Author.Tests.{eq-eqb, ne-eqb, eqb-true, le-leb, lt-leb}
 use Rattle.text.specs.Classes.{isBetween}
 use Rattle.text.proofs.Laws.{and-left, and-right}
-use Rattle.lines.specs.Verdicts.{refused, pass}
 use Rattle.lines.specs.Lines.{linesOf, lineAt}
 use Rattle.lines.specs.declared.Line.{Line}
-use Rattle.lines.specs.declared.Verdict.{Verdict}
-use Rattle.lines.proofs.Laws.{Located, located, lines-next, lines-behind, then-zero}
+use Rattle.lines.proofs.Laws.{Located, located, lines-next, lines-behind}
 use Rattle.layout.specs.Layout.{Taken, Run, refusedAt, taken, stepOf, runOf, behind, withTaken, marked, layoutOf}
 use Rattle.layout.specs.declared.Place.{Place}
 use Rattle.layout.specs.declared.Step.{Step}
 use Rattle.layout.proofs.Laws.{run-next, takes-within}
-use Rattle.sheets.specs.Sheets.{takenIn as takenOf}
+use Rattle.sheets.specs.Sheets.{Entry, edge, held, takenIn as takenOf}
 use Rattle.table.specs.Table.{table}
-use Rattle.table.specs.Values.{numberOf, valueVerdict, valuesPass}
+use Rattle.table.specs.Values.{numberOf}
 use Rattle.mt515.specs.Body.{bodyOf, takenIn}
 use Rattle.mt515.specs.Reading.{readOf}
 use Rattle.mt515.specs.declared.Reading.{Reading}
-use Rattle.demands.proofs.Said.{values-pass}
+use Rattle.demands.specs.Lawful.{Valued}
 use Rattle.demands.proofs.Accepting.{body-taken}
 use Rattle.demands.proofs.Demands.{demands}
 use Rattle.field.specs.Field.{noLine, takenFor, asked, lineFor, frontOf, fieldOf, startBehind, endOf, placeOf}
@@ -65,13 +63,16 @@ unfolding withTaken isTaken takenIn
 with-taken t (refusedAt number line) ts h = absurd (true≢false (ap isTaken (sym h)))
 with-taken t (taken us) ts h = (us, refl, sym (ap takenIn h))
 
-verdict-zero : (s n : ℕ) (v : List ℕ) → valueVerdict s n v .number ≡ 0 → numberOf s v ≡ 0
-unfolding valueVerdict pass refused
-verdict-zero s n v h = on (eqb (numberOf s v) 0) refl h
-  where
-    on : (b : Bool) → eqb (numberOf s v) 0 ≡ b → cond b pass (refused (numberOf s v) n) .number ≡ 0 → numberOf s v ≡ 0
-    on true e q = eqb-true (numberOf s v) 0 e
-    on false e q = q
+-- every value that was taken has its slot's form
+unfoldable pub Formed : List Taken → Type 0
+Formed [] = Unit
+Formed (t ∷ ts) = (numberOf (t .slot) (t .value) ≡ 0) × Formed ts
+
+formed : (es : List Entry) (n : ℕ) → Valued es → Formed (takenOf n es)
+unfolding Formed Valued takenOf
+formed [] n h = tt
+formed (edge o ∷ es) n h = formed es (suc n) h
+formed (held s k v ∷ es) n h = (h .0, formed es (suc n) (h .1))
 
 module _ (n : ℕ) (l : List ℕ) (step : Step) (rest : Run) (ts : List Taken) (h : behind n l step rest ≡ taken ts) where
   abbrev pub t : Taken
@@ -86,25 +87,25 @@ module _ (n : ℕ) (l : List ℕ) (step : Step) (rest : Run) (ts : List Taken) (
       go true true e = (ts, e, refl)
       go true false e = with-taken t rest ts e
 
-  module _ (v : valuesPass ts .number ≡ 0) (wanted : ℕ) (w : 1 ≤ wanted) where
+  module _ (v : Formed ts) (wanted : ℕ) (w : 1 ≤ wanted) where
     pub taken-here : step .slot ≡ wanted → (takenFor wanted ts ≡ t) × (numberOf wanted (drop (step .width) l) ≡ 0)
-    unfolding takenFor valuesPass
+    unfolding takenFor Formed
     taken-here e =
         let (us, r, q) = next in
         let o : step .slot ≡ 0 → ⊥ = λ z. omega arith in
         let p : ts ≡ t ∷ us = rw (ne-eqb (step .slot) 0 o) at q in
-        (rw (p, eq-eqb (step .slot) wanted e), rw e at (verdict-zero (step .slot) n _ (then-zero _ _ (rw p at v) .0)))
+        (rw (p, eq-eqb (step .slot) wanted e), rw e at ((rw p at v) .0))
 
-    pub taken-later : (step .slot ≡ wanted → ⊥) → (us : List Taken) × (rest ≡ taken us) × (valuesPass us .number ≡ 0) × (takenFor wanted us ≡ takenFor wanted ts)
-    unfolding takenFor valuesPass
+    pub taken-later : (step .slot ≡ wanted → ⊥) → (us : List Taken) × (rest ≡ taken us) × Formed us × (takenFor wanted us ≡ takenFor wanted ts)
+    unfolding takenFor Formed
     taken-later o =
         let (us, r, q) = next in
         let (a, b) = go (eqb (step .slot) 0) us q in
         (us, r, a, b)
       where
-        go : (b : Bool) (us : List Taken) → ts ≡ cond b us (t ∷ us) → (valuesPass us .number ≡ 0) × (takenFor wanted us ≡ takenFor wanted ts)
+        go : (b : Bool) (us : List Taken) → ts ≡ cond b us (t ∷ us) → Formed us × (takenFor wanted us ≡ takenFor wanted ts)
         go true us q = (rw q at v, rw q)
-        go false us q = (then-zero _ _ (rw q at v) .1, rw (q, ne-eqb (step .slot) wanted o))
+        go false us q = ((rw q at v) .1, rw (q, ne-eqb (step .slot) wanted o))
 
 -- ---- the answer, of the line that was taken
 
@@ -198,7 +199,7 @@ pub record Kept (m : List ℕ) (wanted : ℕ) (seen : List ℕ) (here : Place) (
   pub begun : at ≡ startBehind m lines
   pub ts : List Taken
   pub run : runOf table here seen (suc lines) (linesOf (drop at m)) ≡ taken ts
-  pub valued : valuesPass ts .number ≡ 0
+  pub valued : Formed ts
   pub found : takenFor wanted ts ≡ lineFor m wanted
 
 -- the first place of the table, with no slot seen
@@ -213,7 +214,6 @@ unfolding bodyOf layoutOf
 body-run m ls e = ap (runOf table top none-seen 5) e
 
 pub begin : (m : List ℕ) (wanted from : ℕ) → asked m wanted ≡ true → from ≡ startBehind m 4 → Kept m wanted none-seen top from
-unfolding pass refused
 begin m wanted from h e =
     let w = demands .accepts-lawful m .0 (accepted m wanted h) in
     let b = body-taken m (w .sheet) (w .laid) (w .lines) in
@@ -224,7 +224,7 @@ begin m wanted from h e =
       begun = e;
       ts = takenOf 5 (w .sheet);
       run = body-run m (linesOf (drop from m)) (ap (λ (k : ℕ). linesOf (drop k m)) e ∙ begins m 4 .rest) ∙ b;
-      valued = ap (λ (v : Verdict). v .number) (values-pass (w .sheet) 5 (w .valued));
+      valued = formed (w .sheet) 5 (w .valued);
       found = line-is m wanted h (takenOf 5 (w .sheet)) b;
     }
 

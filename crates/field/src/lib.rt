@@ -79,7 +79,7 @@ fn search(message: &[u8], from: usize, wanted: usize) -> Stretch
     let mut seen = [0u8; 32];
     let mut here = Place { row: 0, back: 0 };
     let mut at = from;
-    let found = 'blocks: loop {
+    'blocks: loop {
         if message.len() <= at {
             break nowhere(0);
         }
@@ -98,8 +98,7 @@ fn search(message: &[u8], from: usize, wanted: usize) -> Stretch
                 break;
             }
         }
-    };
-    found
+    }
 }
 
 // Where the value of a slot stands in a message.
