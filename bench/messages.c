@@ -1,0 +1,216 @@
+/* messages.c: see messages.h. A message is put down line by line, in the order of document 01's table. */
+#include "messages.h"
+
+#include <stdbool.h>
+#include <string.h>
+
+enum kind { INST, CANC, MDFC, TDDK };
+
+/* What is being written, and how. */
+struct pen {
+    uint8_t *at;
+    uint64_t state;                  /* of the random numbers */
+    enum kind kind;
+    bool wide, crlf, turned;
+};
+
+/* ---------------------------------------------------------------- bytes */
+
+/* A random number below a limit (xorshift64*). */
+static unsigned below(struct pen *pen, unsigned limit)
+{
+    pen->state ^= pen->state >> 12;
+    pen->state ^= pen->state << 25;
+    pen->state ^= pen->state >> 27;
+    return (unsigned)((pen->state * 0x2545F4914F6CDD1Du) >> 33) % limit;
+}
+
+static void put(struct pen *pen, const char *text)
+{
+    size_t length = strlen(text);
+    memcpy(pen->at, text, length);
+    pen->at += length;
+}
+
+/* So many characters of a list. */
+static void put_from(struct pen *pen, const char *list, unsigned characters, size_t count)
+{
+    for (size_t i = 0; i < count; i++)
+        *pen->at++ = (uint8_t)list[below(pen, characters)];
+}
+
+static void put_c(struct pen *pen, size_t count)
+{
+    put_from(pen, "ABCDEFGHIJKLMNOPQRSTUVWXYZ0123456789", 36, count);
+}
+
+static void put_digits(struct pen *pen, size_t count)
+{
+    put_from(pen, "0123456789", 10, count);
+}
+
+/* A two-digit number from low to high. */
+static void put_part(struct pen *pen, unsigned low, unsigned high)
+{
+    unsigned part = low + below(pen, high - low + 1);
+    *pen->at++ = (uint8_t)('0' + part / 10);
+    *pen->at++ = (uint8_t)('0' + part % 10);
+}
+
+static void put_time(struct pen *pen)
+{
+    put_part(pen, 0, 23);
+    put_part(pen, 0, 59);
+    put_part(pen, 0, 59);
+}
+
+static void end_line(struct pen *pen)
+{
+    put(pen, pen->crlf ? "\r\n" : "\n");
+}
+
+/* ---------------------------------------------------------------- lines */
+
+static void line(struct pen *pen, const char *text)
+{
+    put(pen, text);
+    end_line(pen);
+}
+
+/* A line whose value is a text: its width where the message is small, and where it is wide. */
+static void text_line(struct pen *pen, const char *fixed, size_t small, size_t wide)
+{
+    put(pen, fixed);
+    put_c(pen, pen->wide ? wide : small);
+    end_line(pen);
+}
+
+static void moment_line(struct pen *pen, const char *fixed_and_date)
+{
+    put(pen, fixed_and_date);
+    put_time(pen);
+    end_line(pen);
+}
+
+/* An amount above zero, with a needless nought or two where it is small. */
+static void amount_line(struct pen *pen, const char *fixed, size_t wholes, size_t decimals)
+{
+    put(pen, fixed);
+    put(pen, pen->wide ? "1" : "01");
+    put_digits(pen, wholes - 1);
+    put(pen, ",");
+    put_digits(pen, decimals);
+    put(pen, pen->wide || decimals == 0 ? "" : "0");
+    end_line(pen);
+}
+
+static void header(struct pen *pen)
+{
+    text_line(pen, "", 0, 12);
+    text_line(pen, "", 4, 8);
+    line(pen, "515/000/GSCC");
+    line(pen, "MBSCTRRS");
+}
+
+static void link_block(struct pen *pen, const char *fixed)
+{
+    line(pen, ":16R:LINK");
+    text_line(pen, fixed, 8, 16);
+    line(pen, ":16S:LINK");
+}
+
+static void links(struct pen *pen)
+{
+    static const char *const fixed[] = { ":20C::MAST//", ":20C::PREV//", ":20C::LIST//" };
+    bool has[] = { pen->kind != TDDK, pen->wide && pen->kind == MDFC, pen->wide && (pen->kind == CANC || pen->kind == MDFC) };
+    for (int i = 0; i < 3; i++) {
+        int link = pen->turned ? 2 - i : i;
+        if (has[link])
+            link_block(pen, fixed[link]);
+    }
+}
+
+static void general(struct pen *pen)
+{
+    line(pen, ":16R:GENL");
+    text_line(pen, ":20C::SEME//", 8, 16);
+    line(pen, pen->kind == CANC ? ":23G:CANC" : ":23G:NEWM");
+    if (pen->wide)
+        moment_line(pen, ":98C::PREP//20240301");
+    line(pen, ":22F::TRTR/GSCC/CASH");
+    links(pen);
+    line(pen, ":16S:GENL");
+}
+
+/* The trades are our purchases, so the seller is the other side. */
+static void party(struct pen *pen, bool seller)
+{
+    line(pen, ":16R:CONFPRTY");
+    text_line(pen, seller ? ":95R::SELL/GSCC/PART" : ":95R::BUYR/GSCC/PART", 4, 4);
+    if (seller && pen->kind == TDDK)
+        text_line(pen, ":20C::PROC//", 10, 16);
+    if (pen->wide)
+        text_line(pen, ":70C::PACO//GSCC/TDID", 0, 20);
+    line(pen, ":16S:CONFPRTY");
+}
+
+static void pool(struct pen *pen)
+{
+    line(pen, ":16R:FIA");
+    text_line(pen, ":13B::POOL/GSCC/", 0, 9);
+    line(pen, ":16S:FIA");
+}
+
+static void narrative(struct pen *pen)
+{
+    put(pen, ":70E::TPRO//GSCC/TDSV");
+    put(pen, below(pen, 2) ? "TFTD" : "STIP");
+    if (pen->kind == TDDK) {
+        put(pen, "/DKRS");
+        put_c(pen, 4);
+    } else if (pen->wide) {
+        put(pen, "/GUPP");
+        put_digits(pen, 1);
+    }
+    end_line(pen);
+}
+
+static void details(struct pen *pen)
+{
+    static const char *const kind_lines[] = {
+        ":22F::PROC/GSCC/INST", ":22F::PROC/GSCC/CANC", ":22F::PROC/GSCC/MDFC", ":22F::PROC/GSCC/TDDK" };
+    line(pen, ":16R:CONFDET");
+    moment_line(pen, ":98C::TRAD//20240229");
+    put(pen, ":98A::SETT//202403");
+    put_part(pen, 1, 31);
+    end_line(pen);
+    amount_line(pen, ":90A::DEAL//PRCT/", pen->wide ? 1 : 2, pen->wide ? 13 : 3);
+    line(pen, ":22H::BUSE//BUYI");
+    line(pen, kind_lines[pen->kind]);
+    line(pen, ":22H::PAYM//APMT");
+    party(pen, pen->turned);
+    party(pen, !pen->turned);
+    amount_line(pen, ":36B::CONF//FAMT/", pen->wide ? 14 : 7, 0);
+    text_line(pen, ":35B:/US/", 9, 9);
+    if (pen->wide)
+        pool(pen);
+    narrative(pen);
+    line(pen, ":16S:CONFDET");
+}
+
+void make_messages(struct messages *messages, uint64_t seed)
+{
+    struct pen pen = { .at = messages->batch, .state = seed * 2 + 1 };
+    for (size_t i = 0; i < MESSAGES; i++) {
+        messages->start[i] = (size_t)(pen.at - messages->batch);
+        pen.kind = (enum kind)(i % 4);
+        pen.wide = i / 4 % 2 == 1;
+        pen.crlf = i / 8 % 2 == 1;
+        pen.turned = i / 16 % 2 == 1;
+        header(&pen);
+        general(&pen);
+        details(&pen);
+        line(&pen, "-");
+    }
+    messages->start[MESSAGES] = (size_t)(pen.at - messages->batch);
+}
