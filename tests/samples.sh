@@ -55,10 +55,18 @@ for file in $samples; do
     done
 done
 
-# Each message by itself, and not cut from a batch.
-cat $samples | "$work/list" | cut -d ' ' -f 1-7 >"$work/got"
+# Each message by itself, and not cut from a batch; price and par, which the table does not have, as the second program has them.
+[ -x target/bin/vectors ] || rt check vectors </dev/null
+cat $samples | "$work/list" >"$work/second"
+cut -d ' ' -f 1-7 "$work/second" >"$work/got"
 agree 'the second program, message by message' "$work/table" "$work/got"
 cat $samples | "$work/list" --twice
+for file in $samples; do
+    bin/run-x86 target/bin/vectors <"$file"
+done | diff "$work/second" - || {
+    echo 'message by message: the second program <, the reader >'
+    exit 1
+}
 
 accepted=$(awk '$2 == 0' "$work/table" | wc -l)
 echo "ok, $(wc -l <"$work/table") messages, $accepted of them accepted, are answered as in the table"
