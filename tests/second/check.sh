@@ -9,7 +9,7 @@ trap 'rm -rf "$work"' EXIT
 flags="-std=c11 -Wall -Wextra -Werror"
 safe="-g -O1 -fsanitize=address,undefined -fno-sanitize-recover=all"
 cc $flags $safe second.c list.c -o "$work/list-checked" 2>/dev/null || cc $flags -O2 second.c list.c -o "$work/list-checked"
-cc $flags $safe second.c records.c -o "$work/records-checked" 2>/dev/null || cc $flags -O2 second.c records.c -o "$work/records-checked"
+cc $flags $safe second.c bytes.c records.c -o "$work/records-checked" 2>/dev/null || cc $flags -O2 second.c bytes.c records.c -o "$work/records-checked"
 
 b() { cat <<'B'
 

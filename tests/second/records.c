@@ -1,6 +1,6 @@
 /* records.c - writing: what a record must be, the order of refusals, and that a refused write changes no byte.
  * Also the batch at its ends. Prints only what fails. */
-#include "second.h"
+#include "bytes.h"
 
 #include <string.h>
 
@@ -59,6 +59,16 @@ static struct record widest(int kind)
     return r;
 }
 
+/* A record that may be written is the same after it was 375 bytes. */
+static void through_bytes(const struct record *r)
+{
+    uint8_t bytes[RECORD_BYTES];
+    struct record again;
+    second_to_bytes(r, bytes);
+    second_from_bytes(bytes, &again);
+    demand(memcmp(r, &again, sizeof again) == 0, "the record's bytes give another record");
+}
+
 static struct written put(const struct record *r, size_t room)
 {
     uint8_t buffer[1000];
@@ -70,6 +80,7 @@ static struct written put(const struct record *r, size_t room)
         demand(buffer[i] == 0x5A, "a byte changed that must stand");
     if (w.number == ACCEPTED) {
         struct record again;
+        through_bytes(r);
         demand(second_read(buffer, w.length, &again).number == ACCEPTED && memcmp(&again, r, sizeof again) == 0, "what was written reads as another record");
     }
     return w;

@@ -1079,19 +1079,26 @@ struct next second_next(const uint8_t *batch, size_t length, size_t position, st
 
 /* ---------------------------------------------------------------- one field */
 
-/* The stretch of the caller's own message, or the empty one at its start. */
-struct stretch second_field(const uint8_t *message, size_t length, unsigned field)
+/* For each slot the stretch of the caller's own message, or the empty one at its start. */
+void second_fields(const uint8_t *message, size_t length, struct stretch fields[FIELDS + 1])
 {
     struct reading r;
-    struct stretch none = { 0, 0 };
-    if (field < 1 || field > FIELDS || all_passes(&r, message, length).number != ACCEPTED)
-        return none;
+    for (unsigned f = 0; f <= FIELDS; f++)
+        fields[f] = (struct stretch){ 0, 0 };
+    if (all_passes(&r, message, length).number != ACCEPTED)
+        return;
     for (size_t i = 4; i < r.count; i++)
-        if (r.lines[i].field == field) {
+        if (r.lines[i].field > 0) {
             size_t start = value_start(&r.lines[i]);
-            return (struct stretch){ r.lines[i].start + start, r.lines[i].length - start };
+            fields[r.lines[i].field] = (struct stretch){ r.lines[i].start + start, r.lines[i].length - start };
         }
-    return none;
+}
+
+struct stretch second_field(const uint8_t *message, size_t length, unsigned field)
+{
+    struct stretch fields[FIELDS + 1];
+    second_fields(message, length, fields);
+    return fields[field <= FIELDS ? field : 0];
 }
 
 /* ---------------------------------------------------------------- the lister */

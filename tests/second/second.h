@@ -119,6 +119,7 @@ struct written second_plain(const uint8_t *message, size_t length, uint8_t *buff
 struct written second_write(const struct record *record, uint8_t *buffer, size_t room);
 struct next second_next(const uint8_t *batch, size_t length, size_t position, struct record *record);
 struct stretch second_field(const uint8_t *message, size_t length, unsigned field);
+void second_fields(const uint8_t *message, size_t length, struct stretch fields[FIELDS + 1]);   /* by number; at 0 the empty one */
 
 /* The shortest form of an amount, ended by a zero byte. */
 void second_amount_text(const struct amount *amount, char out[WIDEST_AMOUNT + 8]);

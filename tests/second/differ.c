@@ -1,0 +1,495 @@
+/* differ.c: holds the static library, called through include/mt515.h, against the second program.
+ *
+ * differ SEED COUNT [FROM]
+ *     tries COUNT generated cases of a seed, from number FROM on. A case is a message; every tenth is a record too, and every
+ *     hundredth a batch. Where a number of the desk came up too seldom to say anything it ends with status 1.
+ * differ -f FILE..
+ *     tries messages from files, each under a line `# name`, as make.py writes them.
+ *
+ * All that an entry answers is compared: numbers, lines, places, and every byte of what it is lent, with some bytes before and
+ * behind. On the first difference it prints the case with both answers and the bytes given, and ends with status 1. */
+#define _DEFAULT_SOURCE
+#include "cases.h"
+#include "mt515.h"
+
+#include <stdbool.h>
+#include <stdlib.h>
+#include <string.h>
+#include <sys/mman.h>
+
+enum {
+    TENTH = 10, HUNDREDTH = 100,     /* of the messages so many are followed by a record, and by a batch */
+    SELDOM = 400,                    /* a number that comes up in fewer than one of so many cases came up too seldom */
+    GUARD = 16,                      /* bytes before and behind what is lent */
+    MARK = 0xA5,
+    MOST_ROOM = LONGEST_WRITTEN + 100,
+    NUMBERS_OF_DESK = 22
+};
+
+/* ---------------------------------------------------------------- the case that is tried */
+
+static struct {
+    uint64_t seed, number;
+    const char *name;                /* of a message from a file, which has no seed and number */
+    size_t slot, room, position;     /* what an entry is called with, beside the bytes */
+    const uint8_t *bytes;
+    size_t length;
+} now;
+
+/* How often each number came up, by entry. */
+static uint64_t came_up[5][NUMBERS_OF_DESK];
+enum { READ, FIELD, PLAIN, WRITE, NEXT };
+static const char *const entries[] = { "read", "field", "plain", "write", "next" };
+
+/* What an entry answers, and all that it is lent; marked beforehand, so that what it does not answer keeps the mark. */
+struct told {
+    uint8_t found, between, number, behind;
+    size_t line;
+    size_t offset, count;            /* of a field */
+    size_t written;
+    size_t next;
+    uint8_t lent[GUARD + MOST_ROOM + GUARD];    /* the record, or the buffer, between guards */
+};
+
+static uint8_t *marked(struct told *told)
+{
+    memset(told, MARK, sizeof *told);
+    return told->lent + GUARD;
+}
+
+/* ---------------------------------------------------------------- a difference */
+
+static void print_bytes(const char *what, const uint8_t *bytes, size_t length)
+{
+    printf("%s, %zu bytes: \"", what, length);
+    for (size_t i = 0; i < length; i++)
+        if (bytes[i] == '\n')
+            printf("\\n%s", i + 1 < length ? "\"\n  \"" : "");
+        else if (bytes[i] == '\r')
+            printf("\\r");
+        else if (bytes[i] < 0x20 || bytes[i] > 0x7E || bytes[i] == '"' || bytes[i] == '\\')
+            printf("\\%03o", bytes[i]);
+        else
+            putchar(bytes[i]);
+    puts("\"");
+}
+
+/* A number, unless it keeps the mark. */
+static void print_number(const char *name, size_t value)
+{
+    size_t mark;
+    memset(&mark, MARK, sizeof mark);
+    if (value != mark)
+        printf(" %s %zu", name, value);
+}
+
+static void print_byte(const char *name, uint8_t value)
+{
+    if (value != MARK)
+        printf(" %s %u", name, value);
+}
+
+static void print_told(const char *who, const struct told *t)
+{
+    printf("%s:", who);
+    print_byte("found", t->found);
+    print_byte("number", t->number);
+    print_number("line", t->line);
+    print_number("offset", t->offset);
+    print_number("count", t->count);
+    print_number("written", t->written);
+    print_number("next", t->next);
+    puts("");
+}
+
+static void print_case(void)
+{
+    if (now.name)
+        printf("the message %s", now.name);
+    else
+        printf("seed %llu, case %llu", (unsigned long long)now.seed, (unsigned long long)now.number);
+}
+
+/* What was asked: the entry, and what it was given beside the bytes. */
+static void print_asked(int entry)
+{
+    printf("mt515_%s", entries[entry]);
+    if (entry == FIELD)
+        printf(", slot %zu", now.slot);
+    if (entry == PLAIN || entry == WRITE)
+        printf(", room %zu", now.room);
+    if (entry == NEXT)
+        printf(", position %zu", now.position);
+    puts("");
+}
+
+static void print_difference(int entry, const struct told *library, const struct told *second)
+{
+    size_t lent = entry == READ || entry == NEXT ? RECORD_BYTES : now.room;
+    printf("THEY DIFFER: ");
+    print_case();
+    puts("");
+    print_asked(entry);
+    print_told("the library       ", library);
+    print_told("the second program", second);
+    for (size_t i = 0; i < sizeof library->lent; i++)
+        if (library->lent[i] != second->lent[i]) {
+            printf("what is lent differs first at byte %td: %u, %u\n", (ptrdiff_t)i - GUARD, library->lent[i], second->lent[i]);
+            print_bytes("the library       ", library->lent + GUARD, lent);
+            print_bytes("the second program", second->lent + GUARD, lent);
+            break;
+        }
+    print_bytes("given", now.bytes, now.length);
+}
+
+/* Everything is compared: the numbers and all bytes lent. */
+static void compare(int entry, const struct told *library, const struct told *second)
+{
+    came_up[entry][second->number]++;
+    if (memcmp(library, second, sizeof *library) == 0)
+        return;
+    print_difference(entry, library, second);
+    exit(1);
+}
+
+/* ---------------------------------------------------------------- the entries, each asked of both */
+
+static void ask_read(const uint8_t *message, size_t length)
+{
+    static struct told library, second;
+    struct record record;
+    uint8_t *lent = marked(&library);
+    library.number = mt515_read(message, length, lent, &library.line);
+
+    lent = marked(&second);
+    struct answer answer = second_read(message, length, &record);
+    second.number = (uint8_t)answer.number;
+    second.line = answer.line;
+    second_to_bytes(&record, lent);
+    compare(READ, &library, &second);
+}
+
+/* One slot, or a number that names none. */
+static void ask_field(const uint8_t *message, size_t length, size_t slot, uint8_t number, struct stretch stretch)
+{
+    static struct told library, second;
+    now.slot = slot;
+    marked(&library);
+    library.number = mt515_field(message, length, slot, &library.offset, &library.count);
+
+    marked(&second);
+    second.number = number;
+    second.offset = stretch.offset;
+    second.count = stretch.length;
+    compare(FIELD, &library, &second);
+}
+
+/* Every slot; of a refused message, where each is answered alike, mostly three, since each costs a reading. */
+static void ask_fields(struct chance *chance, const uint8_t *message, size_t length, uint8_t number)
+{
+    static const size_t none[] = { 23, 64, 255, 256, 257, 268, 65537, 4294967297u, 4294967308u, SIZE_MAX, SIZE_MAX - 20 };
+    struct stretch fields[FIELDS + 1];
+    second_fields(message, length, fields);
+    if (number == ACCEPTED || below(chance, 8) == 0)
+        for (size_t slot = 0; slot <= FIELDS; slot++)
+            ask_field(message, length, slot, number, fields[slot]);
+    else
+        for (size_t times = 0; times < 3; times++) {
+            size_t slot = below(chance, FIELDS + 1);
+            ask_field(message, length, slot, number, fields[slot]);
+        }
+    ask_field(message, length, below(chance, 4) == 0 ? FIELDS + 1 : none[below(chance, sizeof none / sizeof none[0])], number, fields[0]);
+}
+
+static size_t ask_plain(const uint8_t *message, size_t length, size_t room)
+{
+    static struct told library, second;
+    now.room = room;
+    uint8_t *lent = marked(&library);
+    library.number = mt515_plain(message, length, lent, room, &library.line, &library.written);
+
+    lent = marked(&second);
+    struct written written = second_plain(message, length, lent, room);
+    second.number = (uint8_t)written.number;
+    second.line = written.line;
+    second.written = written.length;
+    compare(PLAIN, &library, &second);
+    now.room = 0;
+    return written.length;
+}
+
+static size_t ask_write(const uint8_t record[RECORD_BYTES], size_t room)
+{
+    static struct told library, second;
+    struct record read;
+    now.room = room;
+    uint8_t *lent = marked(&library);
+    library.number = mt515_write(record, lent, room, &library.written);
+
+    lent = marked(&second);
+    second_from_bytes(record, &read);
+    struct written written = second_write(&read, lent, room);
+    second.number = (uint8_t)written.number;
+    second.written = written.length;
+    compare(WRITE, &library, &second);
+    now.room = 0;
+    return written.length;
+}
+
+/* Answers the next position, or the one given where there is no message. */
+static size_t ask_next(const uint8_t *batch, size_t length, size_t position)
+{
+    static struct told library, second;
+    struct record record;
+    now.position = position;
+    uint8_t *lent = marked(&library);
+    library.found = mt515_next(batch, length, position, lent, &library.line, &library.next, &library.number);
+
+    lent = marked(&second);
+    struct next next = second_next(batch, length, position, &record);
+    second.found = (uint8_t)next.state;
+    second.number = (uint8_t)next.answer.number;
+    second.line = next.answer.line;
+    second.next = next.position;
+    second_to_bytes(&record, lent);
+    compare(NEXT, &library, &second);
+    now.position = 0;
+    return next.position;
+}
+
+/* ---------------------------------------------------------------- rooms */
+
+/* Some room about a length: none, too little, just enough, more. */
+static size_t a_room(struct chance *chance, size_t length)
+{
+    switch (below(chance, 5)) {
+    case 0: return 0;
+    case 1: return length > 0 ? length - 1 : 0;
+    case 2: return length;
+    case 3: return below(chance, length + 1);
+    default: return below(chance, MOST_ROOM);
+    }
+}
+
+typedef size_t in_room(const uint8_t *bytes, size_t length, size_t room);
+
+static size_t write_in_room(const uint8_t *bytes, size_t length, size_t room)
+{
+    (void)length;
+    return ask_write(bytes, room);
+}
+
+/* Ample room; one about the length; and now and then every one from 0 to one past the length. */
+static void ask_rooms(struct chance *chance, in_room *ask, const uint8_t *bytes, size_t length)
+{
+    size_t written = ask(bytes, length, MOST_ROOM);
+    ask(bytes, length, a_room(chance, written));
+    if (below(chance, 500) == 0)
+        for (size_t room = 0; room <= written + 1; room++)
+            ask(bytes, length, room);
+}
+
+/* ---------------------------------------------------------------- cases */
+
+/* The bytes, copied so that they end just before a page that may not be touched. */
+static const uint8_t *lend(const uint8_t *bytes, size_t length)
+{
+    enum { PAGE = 4096 };
+    static uint8_t *fence;
+    if (!fence) {
+        uint8_t *pages = mmap(NULL, LONGEST_CASE + PAGE, PROT_READ | PROT_WRITE, MAP_PRIVATE | MAP_ANONYMOUS, -1, 0);
+        if (pages == MAP_FAILED || mprotect(pages + LONGEST_CASE, PAGE, PROT_NONE) != 0) {
+            puts("no pages to lend");
+            exit(2);
+        }
+        fence = pages + LONGEST_CASE;
+    }
+    memcpy(fence - length, bytes, length);
+    now.bytes = bytes;
+    now.length = length;
+    return fence - length;
+}
+
+static void still(const uint8_t *lent, const uint8_t *bytes, size_t length, const char *what)
+{
+    if (memcmp(lent, bytes, length) == 0)
+        return;
+    print_case();
+    printf(": %s was changed\n", what);
+    print_bytes("given", bytes, length);
+    exit(1);
+}
+
+static void try_message(struct chance *chance, const struct bytes *message)
+{
+    struct record record;
+    const uint8_t *lent = lend(message->at, message->length);
+    struct answer answer = second_read(lent, message->length, &record);
+
+    ask_read(lent, message->length);
+    ask_fields(chance, lent, message->length, (uint8_t)answer.number);
+    if (answer.number == ACCEPTED)
+        ask_rooms(chance, ask_plain, lent, message->length);
+    else
+        ask_plain(lent, message->length, a_room(chance, MOST_ROOM - 1));
+    ask_next(lent, message->length, 0);
+    ask_next(lent, message->length, below(chance, message->length + 4));
+    still(lent, message->at, message->length, "the message");
+}
+
+static void try_record(struct chance *chance)
+{
+    uint8_t record[RECORD_BYTES];
+    make_record(chance, record);
+    const uint8_t *lent = lend(record, RECORD_BYTES);
+    ask_rooms(chance, write_in_room, lent, RECORD_BYTES);
+    still(lent, record, RECORD_BYTES, "the record");
+}
+
+/* From message to message; then from some positions, or from every one, to past the end. */
+static void try_batch(struct chance *chance)
+{
+    static struct bytes batch;
+    make_batch(chance, &batch);
+    const uint8_t *lent = lend(batch.at, batch.length);
+    size_t position = 0;
+    while (position < batch.length)
+        position = ask_next(lent, batch.length, position);
+    ask_next(lent, batch.length, SIZE_MAX - below(chance, 3));
+    if (below(chance, 8) == 0)
+        for (position = 0; position <= batch.length + 2; position++)
+            ask_next(lent, batch.length, position);
+    else
+        for (size_t times = 0; times < 20; times++)
+            ask_next(lent, batch.length, below(chance, batch.length + 3));
+    still(lent, batch.at, batch.length, "the batch");
+}
+
+static void try_case(uint64_t seed, uint64_t number)
+{
+    static struct bytes message;
+    struct chance chance;
+    now.seed = seed;
+    now.number = number;
+    chance_start(&chance, seed, number);
+    make_message(&chance, &message);
+    try_message(&chance, &message);
+    if (number % TENTH == 0)
+        try_record(&chance);
+    if (number % HUNDREDTH == 0)
+        try_batch(&chance);
+}
+
+/* ---------------------------------------------------------------- whether it reached everything */
+
+/* Where a number must come up: reading 0 to 17, a plain form 19 too, writing 0 and 14 to 19 but 20, the batch 21. */
+static bool must_come_up(int entry, int number)
+{
+    if (entry == WRITE)
+        return number == 0 || (number >= 14 && number <= 19);
+    return number <= 17 || (entry == PLAIN && number == 19) || (entry == NEXT && number == 21);
+}
+
+static bool reached(uint64_t count)
+{
+    bool all = true;
+    for (int entry = READ; entry <= NEXT; entry++) {
+        printf("%-5s", entries[entry]);
+        for (int n = 0; n < NUMBERS_OF_DESK; n++) {
+            uint64_t least = entry == WRITE ? count / TENTH / SELDOM : count / SELDOM;
+            if (came_up[entry][n] > 0)
+                printf(" %d:%llu", n, (unsigned long long)came_up[entry][n]);
+            if (must_come_up(entry, n) && came_up[entry][n] < least) {
+                printf(" (too seldom: %d)", n);
+                all = false;
+            }
+        }
+        puts("");
+    }
+    return all;
+}
+
+static int try_cases(uint64_t seed, uint64_t count, uint64_t from)
+{
+    for (uint64_t i = 0; i < count; i++) {
+        try_case(seed, from + i);
+        if ((i + 1) % 50000 == 0) {
+            printf("seed %llu: %llu of %llu cases alike\n", (unsigned long long)seed, (unsigned long long)(i + 1), (unsigned long long)count);
+            fflush(stdout);
+        }
+    }
+    if (!reached(count)) {
+        puts("FAILED: a number came up too seldom");
+        return 1;
+    }
+    printf("ok, %llu messages, %llu records and %llu batches are answered alike\n", (unsigned long long)count,
+           (unsigned long long)((from + count + TENTH - 1) / TENTH - (from + TENTH - 1) / TENTH),
+           (unsigned long long)((from + count + HUNDREDTH - 1) / HUNDREDTH - (from + HUNDREDTH - 1) / HUNDREDTH));
+    return 0;
+}
+
+/* ---------------------------------------------------------------- messages from a file */
+
+/* A line `# name` stands before each message. */
+static bool names_a_message(const char *line) { return line[0] == '#' && line[1] == ' '; }
+
+/* A line, with zero bytes in it where the file has some, and its length; 0 at the end. */
+static size_t take_line(FILE *file, char *line, size_t room)
+{
+    size_t length = 0;
+    int byte = 0;
+    while (length < room && byte != '\n' && (byte = getc(file)) != EOF)
+        line[length++] = (char)byte;
+    return length;
+}
+
+static size_t try_file(FILE *file)
+{
+    static struct bytes message;
+    static char line[LONGEST_CASE + 1], name[LONGEST_CASE + 1];
+    struct chance chance;
+    size_t length = take_line(file, line, LONGEST_CASE), tried = 0;
+    while (length > 1 && names_a_message(line)) {
+        memcpy(name, line + 2, length);
+        name[length - 3] = 0;
+        now.name = name;
+        message.length = 0;
+        while ((length = take_line(file, line, LONGEST_CASE)) > 0 && !(length > 1 && names_a_message(line))) {
+            if (message.length + length > LONGEST_CASE)
+                return 0;
+            memcpy(message.at + message.length, line, length);
+            message.length += length;
+        }
+        chance_start(&chance, message.length, tried++);
+        try_message(&chance, &message);
+    }
+    return tried;
+}
+
+static int try_files(char **names)
+{
+    size_t tried = 0;
+    for (; *names; names++) {
+        FILE *file = fopen(*names, "rb");
+        size_t of_file = file ? try_file(file) : 0;
+        if (of_file == 0) {
+            printf("FAILED: no messages in %s\n", *names);
+            return 1;
+        }
+        tried += of_file;
+        fclose(file);
+    }
+    printf("ok, %zu messages from files are answered alike\n", tried);
+    return 0;
+}
+
+int main(int count, char **words)
+{
+    if (count > 2 && strcmp(words[1], "-f") == 0)
+        return try_files(words + 2);
+    if (count < 3 || count > 4) {
+        fputs("usage: differ SEED COUNT [FROM], or differ -f FILE..\n", stderr);
+        return 2;
+    }
+    return try_cases(strtoull(words[1], NULL, 10), strtoull(words[2], NULL, 10), count == 4 ? strtoull(words[3], NULL, 10) : 0);
+}
