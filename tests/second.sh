@@ -1,24 +1,25 @@
 #!/bin/sh
-# A second program, written in C without sight of crates/, holds against what document 01 prints; and it and the project's
-# reader, which `vectors` runs, answer alike on generated messages.
-# Usage: tests/second.sh [SEED COUNT]
+# A second program, written in C without sight of crates/, holds against what document 01 prints; and it and the static
+# library, called by a C program through include/mt515.h, answer alike on generated messages, records and batches.
+# Usage: tests/second.sh [SEED]
 set -eu
 cd "$(dirname "$0")/.."
 work=$(mktemp -d)
 trap 'rm -rf "$work"' EXIT
+seed=${1:-11}
 
 tests/second/check.sh
 
-[ -x target/bin/vectors ] || rt check vectors </dev/null
-cc -std=c11 -Wall -Wextra -Werror -O2 tests/second/second.c tests/second/list.c -o "$work/list"
+tests/second/build.sh "$work/differ"
 mkdir "$work/messages"
-python3 tests/second/make.py "${1:-11}" "${2:-2700}" "$work/messages"
-for file in "$work"/messages/*; do
-    bin/run-x86 target/bin/vectors <"$file" >"$work/first"
-    "$work/list" <"$file" >"$work/second"
-    if ! diff "$work/first" "$work/second"; then
-        echo "the two programs differ: the reader <, the second program >"
-        exit 1
-    fi
-done
-echo "ok, $(cat "$work"/messages/* | grep -c '^# ') messages are answered alike"
+python3 tests/second/make.py "$seed" 2700 "$work/messages"
+bin/run-x86 "$work/differ" -f "$work"/messages/*
+bin/run-x86 "$work/differ" "$seed" 200000
+
+# and fewer with the sanitizers, where the compiler has them
+if tests/second/build.sh "$work/differ-checked" -g -fsanitize=address,undefined -fno-sanitize-recover=all 2>"$work/said"; then
+    bin/run-x86 "$work/differ-checked" "$((seed + 1))" 4000
+else
+    echo 'no run with the sanitizers: the compiler has none for x86-64'
+fi
+echo 'ok, the second program and the library answer alike'
