@@ -1,0 +1,28 @@
+-- `packed::unpack` meets its contract. Assumes nothing.
+use mathlib.Core.Path.{_≡_, sym, _∙_}
+use mathlib.Core.Bool.{true, false}
+use Rattle.packed.specs.Unpacked.{named, unpackedOf}
+use borrow.Author.Needs.{needs}
+use Rattle.packed.proofs.unpack.Statement.{statement}
+use Rattle.packed.proofs.unpack.Tie as tie
+
+are-named-requires : tie.Need-are-named-requires
+are-named-requires c κs = search needs
+
+trade-in-requires : tie.Need-trade-in-requires
+trade-in-requires c κs = search needs
+
+returns : tie.Need-returns
+unfolding unpackedOf
+returns c = rw (c .trade-in .ensures, ← c .before .before .before .are-named .ensures, c .before .before .if1 .taken)
+
+blank-requires : tie.Need-blank-requires
+blank-requires c κs = search needs
+
+returns-2 : tie.Need-returns-2
+unfolding unpackedOf
+returns-2 c = rw (c .blank .ensures, ← c .before .before .are-named .ensures, c .before .if1 .left)
+
+pub unpack-spec : {M : Type 1} → statement M
+unpack-spec =
+    tie.close (tie.spec are-named-requires trade-in-requires returns blank-requires returns-2)
