@@ -1,0 +1,35 @@
+-- What an entry hands out: each number is one byte. Assumes nothing.
+use Prim.Native.Nat.{ℕ, _<_}
+use native.Mathlib.Omega.{arith}
+use mathlib.Core.Path.{_≡_, sym, subst}
+use mathlib.Core.List.{List}
+use Rattle.trade.specs.declared.Trade.{Trade}
+use Rattle.mt515.specs.Reading.{readOf}
+use Rattle.mt515.specs.declared.Reading.{Reading}
+use Rattle.message.specs.Writing.{writingOf}
+use Rattle.message.specs.declared.Writing.{Writing}
+use Rattle.field.specs.Field.{placeOf}
+use Rattle.field.specs.declared.Stretch.{Stretch}
+use Rattle.plain.specs.Asking.{askingOf}
+use Rattle.plain.specs.declared.Asking.{Asking}
+use Rattle.batch.specs.Batch.{nextOf}
+use Rattle.batch.specs.declared.Answer.{Answer}
+use Rattle.gateway.proofs.Numbers.{numbers}
+
+pub read-byte : (m : List ℕ) (a : Reading) → a ≡ readOf m → a .number < 256
+read-byte m a e = subst (λ b. b .number < 256) (sym e) (let h = numbers .read m in omega (arith, h))
+
+pub field-byte : (m : List ℕ) (slot : ℕ) (a : Stretch) → a ≡ placeOf m slot → a .number < 256
+unfolding placeOf
+field-byte m slot a e = subst (λ b. b .number < 256) (sym e) (let h = numbers .read m in omega (arith, h))
+
+pub plain-byte : (m : List ℕ) (room : ℕ) (a : Asking) → a ≡ askingOf m room → a .number < 256
+unfolding askingOf
+plain-byte m room a e = subst (λ b. b .number < 256) (sym e) (let h = numbers .plain m room in omega (arith, h))
+
+pub write-byte : (t : Trade) (room : ℕ) (a : Writing) → a ≡ writingOf t room → a .number < 256
+unfolding writingOf
+write-byte t room a e = subst (λ b. b .number < 256) (sym e) (let h = numbers .write t room in omega (arith, h))
+
+pub next-byte : (batch : List ℕ) (position : ℕ) (a : Answer) → a ≡ nextOf batch position → a .reading .number < 256
+next-byte batch position a e = subst (λ b. b .reading .number < 256) (sym e) (let h = numbers .next batch position in omega (arith, h))
