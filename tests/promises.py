@@ -3,7 +3,8 @@
 
 Every `pub fn` of every crate's sources has an `ensures` and no `requires`, but for the functions that docs/PROMISES.md lists
 under "## Functions with a requires", each with its reason; and every one of them is named in that file. So is every must-fail
-edit, by its name, whether the gate tries it or tests/edits.
+edit, by its name, whether the gate tries it or tests/edits. An `ensures` has an equation for the answer, and one for what each
+buffer lent to be written holds afterwards: by demands' law `one-answer` two programs that keep it then do the same.
 
 Usage: promises.py ROOT           check the repository at ROOT
        promises.py --self-test    check this program on a made-up source
@@ -21,6 +22,8 @@ SILENT = re.compile(r'//[^\n]*|/\*.*?\*/|"(?:\\.|[^"\\])*"|\bb\'(?:\\x[0-9A-Fa-f
 FUNCTION = re.compile(r'\bpub\s+(?:extern\s+"[^"]*"\s+)?fn\s+(\w+)')
 IMPL = re.compile(r'\bimpl\s+(\w+)[^{;]*\{')
 CLAUSE = re.compile(r'\b(requires|ensures)\b|[\[({;]')
+EQUATION = re.compile(r'(r|r \.0|now r|now \(\w+ \.exit\)) ≡ ')
+LENT = re.compile(r"(\w+)\s*:\s*&(?:'\w+\s+)?mut\b")
 ENTRY = re.compile(r'- `([\w:]+)`: *(\S.*)')
 
 
@@ -43,28 +46,53 @@ def closing(code, at):
 
 
 def clauses(code, at):
-    """The kinds of the clauses of the contract that starts at `at`, up to the body."""
+    """The clauses of the contract that starts at `at`, up to the body: the kind of each, and its text."""
     found = []
     while True:
         m = CLAUSE.search(code, at)
         if not m or m.group() in '{;':
             return found
         if m.group(1):
-            found.append(m.group(1))
-            at = closing(code, code.index('{', m.end()))
+            start = code.index('{', m.end())
+            at = closing(code, start)
+            found.append((m.group(1), code[start + 1:at - 1]))
         else:
             at = closing(code, m.start())
 
 
+def facts(clause):
+    """The facts that an `ensures` joins by ×, each without the brackets around it."""
+    said = re.search(r'⌜(.*)⌝', clause, re.S)
+    text = said.group(1).strip() if said else ''
+    found, start, depth = [], 0, 0
+    for i, c in enumerate(text + '×'):
+        depth += (c == '(') - (c == ')')
+        if c == '×' and depth == 0:
+            found.append(text[start:i].strip())
+            start = i + 1
+    return [f[1:-1].strip() if f.startswith('(') and closing(f, 0) == len(f) else f for f in found]
+
+
+def unsaid(parameters, answers, found):
+    """What no equation of a contract speaks of: the answer, where there is one, and each parameter lent to be written."""
+    told = {m.group(1) for kind, text in found if kind == 'ensures' for m in map(EQUATION.match, facts(text)) if m}
+    wanted = [name for name in LENT.findall(parameters)]
+    said = [] if not answers or told & {'r', 'r .0', 'now r'} else ['its answer']
+    return said + [name for name in wanted if f'now ({name} .exit)' not in told]
+
+
 def functions(crate, source):
-    """The public functions of a source: (crate::name or crate::Type::name, its line, the kinds of its clauses)."""
+    """The public functions of a source: (crate::name or crate::Type::name, its line, the kinds of its clauses, what they leave unsaid)."""
     code = blanked(source)
     impls = [(m.group(1), m.start(), closing(code, m.end() - 1)) for m in IMPL.finditer(code)]
     found = []
     for m in FUNCTION.finditer(code):
         path = [crate] + [name for name, start, end in impls if start < m.start() < end] + [m.group(1)]
-        parameters = code.index('(', m.end())
-        found.append(('::'.join(path), code.count('\n', 0, m.start()) + 1, clauses(code, closing(code, parameters))))
+        start = code.index('(', m.end())
+        end = closing(code, start)
+        contract = clauses(code, end)
+        left = unsaid(code[start:end], code[end:].lstrip().startswith('->'), contract)
+        found.append(('::'.join(path), code.count('\n', 0, m.start()) + 1, [kind for kind, _ in contract], left))
     return found
 
 
@@ -84,23 +112,25 @@ def exceptions(page):
 
 
 def violations(found, page):
-    """A line for each violation. `found` has (file, name, line, clauses); `page` is docs/PROMISES.md, None where it is not there."""
+    """A line for each violation. `found` has (file, name, line, clauses, unsaid); `page` is docs/PROMISES.md, None where it is not there."""
     listed, odd = exceptions(page or '')
     said = [f'docs/PROMISES.md:{number}: an exception is "- `crate::function`: reason"' for number in odd]
     named = set()
     for span in re.findall(r'`([^`\n]+)`', page or ''):
         named.add(re.split(r'[(\s]', span)[0])
     requiring = set()
-    for file, name, line, kinds in found:
+    for file, name, line, kinds, left in found:
         if 'requires' in kinds:
             requiring.add(name)
         if 'ensures' not in kinds:
             said.append(f'{file}:{line}: {name} has no ensures')
+        else:
+            said += [f'{file}:{line}: {name} has no equation for {what}' for what in left]
         if 'requires' in kinds and name not in listed:
             said.append(f'{file}:{line}: {name} has a requires and is not listed')
         if page is not None and not named & {name, name.split('::', 1)[1]}:
             said.append(f'{file}:{line}: docs/PROMISES.md does not name {name}')
-    known = {name for _, name, _, _ in found}
+    known = {name for _, name, _, _, _ in found}
     for name in listed:
         if name not in known:
             said.append(f'docs/PROMISES.md: {name} is listed, and there is no such public function')
@@ -159,6 +189,12 @@ impl Held {
     }
 }
 
+pub fn loose(buf: &mut [u8], n: &'a mut u8) -> u8
+    ensures { λ r. ⌜ (r ≤ 4) × (now (n .exit) ≡ (1 × 2)) ⌝ }
+{
+    4
+}
+
 pub fn choosy<'a>(x: &'a [u8]) -> u8
     requires { ⌜ 1 ≤ length (now x) ⌝ }
     ensures { λ r. ⌜ r ≡ x' ⌝ }
@@ -168,7 +204,7 @@ pub fn choosy<'a>(x: &'a [u8]) -> u8
 """
 
 PAGE = """
-`good` and `Held::silent` and `c::choosy`.
+`good` and `Held::silent` and `c::choosy` and `loose`.
 
 ## Functions with a requires
 
@@ -186,19 +222,22 @@ PAGE = """
 def self_test():
     found = [('f', *function) for function in functions('c', SOURCE)]
     expected = [
-        ('f', 'c::good', 6, ['ensures']),
-        ('f', 'c::Held::silent', 18, []),
-        ('f', 'c::choosy', 24, ['requires', 'ensures']),
+        ('f', 'c::good', 6, ['ensures'], []),
+        ('f', 'c::Held::silent', 18, [], ['its answer']),
+        ('f', 'c::loose', 24, ['ensures'], ['its answer', 'buf']),
+        ('f', 'c::choosy', 30, ['requires', 'ensures'], []),
     ]
     silent = 'f:18: c::Held::silent has no ensures'
-    choosy = 'f:24: c::choosy has a requires and is not listed'
+    loose = ['f:24: c::loose has no equation for its answer', 'f:24: c::loose has no equation for buf']
+    choosy = 'f:30: c::choosy has a requires and is not listed'
     cases = [
         (found, expected),
-        (violations(found, None), [silent, choosy]),
-        (violations(found, '`good`, `silent`, `choosy(x)`'), [silent, 'f:18: docs/PROMISES.md does not name c::Held::silent', choosy]),
+        (violations(found, None), [silent, *loose, choosy]),
+        (violations(found, '`good`, `silent`, `loose`, `choosy(x)`'), [silent, 'f:18: docs/PROMISES.md does not name c::Held::silent', *loose, choosy]),
         (violations(found, PAGE), [
             'docs/PROMISES.md:9: an exception is "- `crate::function`: reason"',
             silent,
+            *loose,
             'docs/PROMISES.md: c::good is listed, and has no requires',
             'docs/PROMISES.md: c::gone is listed, and there is no such public function',
         ]),

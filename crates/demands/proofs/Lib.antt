@@ -10,3 +10,4 @@ pub mod Writes
 pub mod Whole
 pub mod Round
 pub mod Demands
+pub mod Answers

@@ -1,3 +1,4 @@
 pub mod Lawful
 pub mod Pieces
 pub mod Demands
+pub mod Answers
