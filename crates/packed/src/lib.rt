@@ -46,20 +46,20 @@ fn trade_in(packed: &[u8]) -> Trade
     fields::trade_from(kind, side, service, period, texts, numbers)
 }
 
+fn answer(good: bool, trade: Trade) -> Unpacked
+    ensures { λ r. ⌜ r ≡ record { good = good; trade = trade } ⌝ }
+{
+    Unpacked { good, trade }
+}
+
 // The record that 375 bytes are.
 pub fn unpack(packed: &[u8; 375]) -> Unpacked
     ensures { λ r. ⌜ r ≡ unpackedOf (now (packed .entry)) ⌝ }
 {
     if codes::are_named(packed) {
-        return Unpacked {
-            good: true,
-            trade: trade_in(packed),
-        };
+        return answer(true, trade_in(packed));
     }
-    Unpacked {
-        good: false,
-        trade: trade::blank(),
-    }
+    answer(false, trade::blank())
 }
 
 // Writes the message of the record that 375 bytes are, as `message::write` does. Of bytes that are no record it is the blank
