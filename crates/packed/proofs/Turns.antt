@@ -1,32 +1,22 @@
--- The mathematics of the crate's functions: code bytes, and what each turn of a loop leaves.
+-- The mathematics of the crate's functions: a date and time, and what each turn of a loop leaves.
 -- Assumes nothing.
-use Prim.Native.Nat.{ℕ, zero, suc, _+_, _-_, _*_, _/_, _%_, _^_, _≤_, _<_}
+use Prim.Native.Nat.{ℕ, suc, _+_, _-_, _*_, _/_, _%_, _≤_, _<_}
 use mathlib.Core.Path.{_≡_, refl, sym, ap, _∙_}
 use mathlib.Core.Bool.{true}
 use mathlib.Core.List.{List, [], _∷_, _++_, map, append-assoc, append-nil}
-use native.Mathlib.Nat.{add-zero, zero-lt-suc, le-of-suc-le-suc, suc-mul, mul-le-mul-right, pow-suc, pow-le-pow-right}
+use native.Mathlib.Nat.{suc-mul, mul-le-mul-right}
 use native.Mathlib.Numerals.{add-one}
 use native.Mathlib.Omega.{arith}
-use lib.Arith.{digits-lt}
-use lib.Dec.{leb, lit<}
-use lib.ListN.{length, take, drop, getD, set, replicate, length-append, length-take, length-drop, length-map, drop-of-length-le, List·getD-eq-default, List·getD-map}
-use lib.Seq.{take-suc, take-suc-set, take-at, take-all, drop-cons, drop-drop, getD-drop}
+use lib.Dec.{leb}
+use lib.ListN.{length, take, drop, getD, set, replicate, length-append, length-take, length-map, List·getD-map}
+use lib.Seq.{take-suc, take-suc-set, take-at, take-all}
 use borrow.Author.Tests.{le-leb}
-use Rattle.text.specs.Bytes.{parts}
 use Rattle.text.specs.Copy.{over, fits, placed}
-use Rattle.text.proofs.Laws.{rest-of, placed-all, parts-from, length-parts}
+use Rattle.text.proofs.Laws.{placed-all}
 use Rattle.values.proofs.Turns.{Put, two}
 use Rattle.calendar.specs.declared.Moment.{Moment}
 use Rattle.packed.proofs.Laws.{at-most-in, at-most-out}
 use Rattle.packed.specs.Packed.{atMost, momentNumber, numberBytes, inRow}
-use Rattle.packed.specs.Unpacked.{numberFrom}
-
--- ---- code bytes
-
--- the first of a list answers for 0 and for every place behind the others
-pub first-else : {T : Type 0} (first : T) (others : List T) (place : ℕ) → (0 < place → length others < place) → first ≡ getD (first ∷ others) place first
-first-else first others zero h = refl
-first-else first others (suc n) h = sym (List·getD-eq-default others first (le-of-suc-le-suc (h (zero-lt-suc n))))
 
 -- ---- a date and time
 
@@ -58,29 +48,6 @@ bytes-done place i rest number h l e =
     let z : 8 - i ≡ 0 = omega arith in
     let t : take i place ≡ place = take-all i place (omega arith) in
     rw (z, t, append-nil) at e
-
--- ---- a number from its bytes, the last first
-
-pub from-none : (place : List ℕ) → length place ≡ 8 → 0 ≡ numberFrom (drop 8 place)
-unfolding numberFrom
-from-none place l = rw (drop-of-length-le place {i = 8} (omega arith))
-
-pub from-more : (place : List ℕ) (left number b : ℕ) → left < 8 → length place ≡ 8 → number ≡ numberFrom (drop (suc left) place) → b ≡ getD place left 0
-    → number * 256 + b ≡ numberFrom (drop left place)
-unfolding numberFrom
-from-more place left number b h l e f = rw (drop-cons place left 0 (omega arith), ← e, ← f) (omega arith)
-
-pub from-small : (left number b : ℕ) → left < 8 → number < 256 ^ (8 - suc left) → b < 256 → number * 256 + b < 256 ^ (8 - left)
-from-small left number b h e f =
-    let k : 8 - left ≡ suc (8 - suc left) = omega arith in
-    rw (k, pow-suc) (digits-lt e f)
-
--- so that it fits
-pub from-fits : (left number : ℕ) → number < 256 ^ (8 - left) → number < 18446744073709551616
-from-fits left number h =
-    let k : 8 - left ≤ 8 = omega arith in
-    let p : 256 ^ (8 - left) ≤ 18446744073709551616 = pow-le-pow-right (lit< tt) {i = 8 - left} {j = 8} k in
-    omega arith
 
 -- ---- places in a row
 
@@ -116,45 +83,13 @@ row-done width count ss buf i e h l m =
     let w : count * width ≤ i * width = mul-le-mul-right width h in
     sym (take-all (i * width) buf (omega arith)) ∙ e ∙ ap inRow (take-all i ss (omega arith))
 
--- ---- a row of places read one by one
-
-pub fill-more : {A : Type 0} (goal l : List A) (i : ℕ) (a d : A) → take i l ≡ take i goal → i < length l → i < length goal → a ≡ getD goal i d
-    → take (i + 1) (set l i a) ≡ take (i + 1) goal
-fill-more goal l i a d e h g f = rw (add-one, take-suc-set l i a h, take-suc goal i d g, e, f)
-
-pub fill-done : {A : Type 0} (goal l : List A) (i n : ℕ) → take i l ≡ take i goal → n ≤ i → length l ≡ n → length goal ≡ n → l ≡ goal
-fill-done goal l i n e h p q = sym (take-all i l (omega arith)) ∙ e ∙ take-all i goal (omega arith)
-
--- a part that lies within is as long as it is asked to be
-pub part-width : (at width : ℕ) → at + width - at ≡ width
-part-width at width = omega arith
-
-pub part-long : (s : List ℕ) (at width : ℕ) → at + width ≤ length s → length (take (at + width - at) (drop at s)) ≡ width
-part-long s at width h = rw (length-take, length-drop) (omega arith)
-
-module _ {A : Type 0} (f : List ℕ → A) (width n from i : ℕ) (s : List ℕ) where
-  pub place-at : i < n → f (take width (drop (from + i * width) s)) ≡ getD (map f (parts width n (drop from s))) i (f [])
-  place-at h =
-      let l : List (List ℕ) = parts width n (drop from s) in
-      let e : getD l i [] ≡ take width (drop (i * width) (drop from s)) =
-      sym (getD-drop i l 0 [] ∙ ap (λ (k : ℕ). getD l k []) (add-zero i)) ∙ ap (λ (k : List (List ℕ)). getD k 0 []) (parts-from width n i (drop from s) h)
-      in ap (λ (k : List ℕ). f (take width k)) (sym (drop-drop (i * width) from s)) ∙ ap f (sym e) ∙ sym (List·getD-map f l i [])
-
-  pub length-places : length (map f (parts width n (drop from s))) ≡ n
-  length-places = length-map (parts width n (drop from s)) f ∙ length-parts width n (drop from s)
-
--- ---- the place of a text, and a text from its place
+-- ---- the place of a text
 
 pub text-place : (v : ℕ) (s now : List ℕ) → length s ≡ 20 → now ≡ placed (v ∷ replicate {A = ℕ} 20 0) 1 s → now ≡ v ∷ s
 unfolding placed fits over
 text-place v s now l p =
     let g : leb (1 + length s) 21 ≡ true = le-leb (1 + length s) 21 (omega arith) in
     p ∙ rw (g, l) (ap (λ (k : List ℕ). v ∷ k) (append-nil s))
-
-pub text-taken : (place now : List ℕ) (n : ℕ) → length place ≡ 21 → n ≡ length place → now ≡ placed (replicate {A = ℕ} 20 0) 0 (take (n - 1) (drop 1 place)) → now ≡ drop 1 place
-text-taken place now n l e p =
-    let d : take (n - 1) (drop 1 place) ≡ drop 1 place = rest-of 1 n place (sym e) in
-    p ∙ rw d (placed-all (replicate {A = ℕ} 20 0) (drop 1 place) (length-drop 1 place ∙ ap (λ (k : ℕ). k - 1) l))
 
 -- ---- the three rows in a buffer of 375 bytes
 

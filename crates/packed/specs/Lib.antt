@@ -1,3 +1,1 @@
 pub mod Packed
-pub mod Unpacked
-pub mod Back
