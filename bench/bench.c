@@ -74,7 +74,7 @@ static uint64_t first_read(size_t step)
     for (size_t i = 0; i < MESSAGES; i++) {
         size_t line;
         uint8_t number = mt515_read(message(i), length_of(i), record, &line);
-        sum = add(sum, number + line, record[0]);
+        sum = add(sum, number + line, record[MT515_AT_KIND]);
     }
     return sum;
 }
@@ -162,7 +162,7 @@ static uint64_t first_next(size_t step)
     for (size_t i = 0; i < MESSAGES; i += step) {
         size_t length = messages.start[i + step] - messages.start[i], position = 0, line;
         while (mt515_next(message(i), length, position, record, &line, &position, &number) == MT515_MESSAGE)
-            sum = add(sum, number + line + position, record[0]);
+            sum = add(sum, number + line + position, record[MT515_AT_KIND]);
     }
     return sum;
 }
