@@ -8,7 +8,7 @@ ghost use lib.ListN.{length};
 ghost use Rattle.mt515.specs.Reading.{readOf};
 ghost use Rattle.message.specs.Writing.{writingOf, writtenOver};
 ghost use Rattle.packed.specs.Packed.{packedOf};
-ghost use Rattle.packed.specs.Unpacked.{unpackedOf};
+ghost use Rattle.unpacked.specs.Unpacked.{unpackedOf};
 ghost use Rattle.batch.specs.Batch.{nextOf};
 ghost use Rattle.field.specs.Field.{placeOf};
 ghost use Rattle.plain.specs.Asking.{askingOf, askedOver};
@@ -62,7 +62,7 @@ pub extern "C" fn mt515_plain(
 pub extern "C" fn mt515_write(bytes: &[u8; 375], out: &mut [u8], written: &mut usize) -> u8
     ensures { λ r. ⌜ (r ≡ writingOf (unpackedOf (now (bytes .entry)) .trade) (length (now (out .entry))) .number) × (now (written .exit) ≡ writingOf (unpackedOf (now (bytes .entry)) .trade) (length (now (out .entry))) .length) × (now (out .exit) ≡ writtenOver (unpackedOf (now (bytes .entry)) .trade) (now (out .entry))) ⌝ }
 {
-    let writing = packed::write(bytes, out);
+    let writing = unpacked::write(bytes, out);
     *written = writing.length;
     writing.number as u8
 }

@@ -1,4 +1,4 @@
--- `gateway::mt515_write` meets its contract: the answer of `packed::write`, handed out. Assumes nothing.
+-- `gateway::mt515_write` meets its contract: the answer of `unpacked::write`, handed out. Assumes nothing.
 use native.Mathlib.Omega.{arith}
 use mathlib.Core.Path.{ap}
 use borrow.Author.Needs.{needs}
