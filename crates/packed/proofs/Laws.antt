@@ -33,4 +33,4 @@ module _ (most n : ℕ) where
 pub length-number : (width n : ℕ) → length (numberBytes width n) ≡ width
 unfolding numberBytes
 length-number zero n = refl
-length-number (suc width) n = ap suc (length-number width (n / 256))
+length-number (suc width) n = ap suc (length-number width _)
