@@ -4,9 +4,8 @@ set -eu
 cd "$(dirname "$0")/.."
 work=$(mktemp -d)
 trap 'rm -rf "$work"' EXIT
-library=target/staticlib/libgateway.a
 
-[ -f "$library" ] || rt staticlib gateway </dev/null
+library=$(bin/archive)
 bin/cc-x86 -o "$work/gateway" -std=c11 -Wall -Wextra -Werror -O2 -Iinclude tests/gateway.c "$library"
 bin/run-x86 "$work/gateway"
 
