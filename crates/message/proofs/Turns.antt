@@ -3,7 +3,7 @@
 -- Assumes nothing.
 use Prim.Native.Nat.{ℕ, zero, suc, _+_, _-_, _*_, _/_, _≤_, _<_}
 use mathlib.Core.Path.{_≡_, refl, sym, ap, _∙_}
-use mathlib.Core.Bool.{Bool, true, false, _&&_, _||_, not, cond}
+use mathlib.Core.Bool.{Bool, true, false, _&&_, _||_, not, cond, and-false}
 use mathlib.Core.List.{List, [], _∷_, _++_}
 use native.Mathlib.Omega.{arith}
 use lib.Dec.{leb, ltb, eqb}
@@ -88,21 +88,23 @@ some-long [] = refl
 some-long (b ∷ v) = rw (ne-eqb (suc (length v)) 0 (λ h. let z : ⊥ = omega arith in z))
 
 module _ (t : Trade) (s : ℕ) where
-  pub none-there : absent t s ≡ true → false ≡ some (behindKey t s)
-  unfolding behindKey some
-  none-there e = rw e
+  -- by the length of the value
+  module _ (v : ℕ) (e : v ≡ length (valueOf t s)) where
+    pub value-there : (v ≡ 0 → ⊥) → true ≡ some (behindKey t s)
+    unfolding behindKey
+    value-there z =
+        let l = length-append (fixedOf s) (valueOf t s) in
+        rw (ne-eqb (length (valueOf t s)) 0 (λ h. z (e ∙ h)), and-false (optional s), some-long (fixedOf s ++ valueOf t s), ne-eqb (length (fixedOf s ++ valueOf t s)) 0 (λ h. z (omega arith)))
 
-  pub value-there : absent t s ≡ false → (f v : ℕ) → f ≡ length (fixedOf s) → f ≡ 0 → v ≡ length (valueOf t s) → not (eqb v 0) ≡ some (behindKey t s)
-  unfolding behindKey
-  value-there e f v p z q =
-      let l : length (fixedOf s ++ valueOf t s) ≡ v = length-append (fixedOf s) (valueOf t s) ∙ omega arith in
-      rw (e, some-long (fixedOf s ++ valueOf t s), l)
+    pub none-there : v ≡ 0 → optional s ≡ true → false ≡ some (behindKey t s)
+    unfolding behindKey some
+    none-there z o = rw (o, eq-eqb (length (valueOf t s)) 0 (sym e ∙ z))
 
-  pub fixed-there : absent t s ≡ false → (f : ℕ) → f ≡ length (fixedOf s) → (f ≡ 0 → ⊥) → true ≡ some (behindKey t s)
-  unfolding behindKey
-  fixed-there e f p z =
-      let l = length-append (fixedOf s) (valueOf t s) in
-      rw (e, some-long (fixedOf s ++ valueOf t s), ne-eqb (length (fixedOf s ++ valueOf t s)) 0 (λ h. z (omega arith)))
+    pub fixed-there : v ≡ 0 → optional s ≡ false → (f : ℕ) → f ≡ length (fixedOf s) → not (eqb f 0) ≡ some (behindKey t s)
+    unfolding behindKey
+    fixed-there z o f p =
+        let l : length (fixedOf s ++ valueOf t s) ≡ f = length-append (fixedOf s) (valueOf t s) ∙ omega arith in
+        rw (o, some-long (fixedOf s ++ valueOf t s), l)
 
   pub none-put : (buf : List ℕ) (at : ℕ) → absent t s ≡ true → Run buf at (partsOf t s) at buf
   unfolding partsOf behindRun overRun

@@ -3,6 +3,7 @@
 use Prim.Native.Nat.{ℕ, zero, suc, _+_, _*_}
 use mathlib.Core.Bool.{Bool, true, false, _&&_, _||_, cond}
 use mathlib.Core.List.{List, [], _∷_, _++_}
+use mathlib.Core.Path.{_≡_}
 use lib.Dec.{eqb}
 use lib.ListN.{length, drop}
 use Rattle.text.specs.Bytes.{bytes}
@@ -11,9 +12,14 @@ use Rattle.text.specs.Copy.{placed, after}
 use Rattle.trade.specs.declared.Trade.{Trade}
 use Rattle.layout.specs.Rows.{Row, field, opens, closes, many, mark, back, ends, textAt, firstRow, rowsOf}
 use Rattle.sheets.specs.Filled.{some}
-use Rattle.table.specs.Table.{fixedOf, table}
+use Rattle.table.specs.Table.{table, slots, fixedOf}
+use Rattle.table.proofs.Tables.{places}
 use Rattle.values.specs.Values.{valueOf, optional}
 use Rattle.message.specs.Messages.{behindKey}
+
+-- the bytes that are lent are those of the table's slots
+abbrev pub AreSlots : List ℕ → Type 0
+AreSlots bytes = (places bytes 0 32 ≡ slots) × (length bytes ≡ 1024)
 
 -- ---- parts put one behind the other: what the buffer holds, and the place behind them
 

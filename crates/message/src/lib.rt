@@ -26,12 +26,12 @@ fn put_header(buf: &mut [u8], trade: Trade) -> usize
     text::put(buf, sender, b"\r\n515/000/GSCC\r\nMBSCTRRS\r\n")
 }
 
-// The message of a record; whole where the buffer has room for it.
+// The message of a record; whole where the buffer has room for it. The table's bytes are lent, so that they are laid down once.
 fn compose(buf: &mut [u8], trade: Trade) -> usize
     ensures { λ r. ⌜ (r ≡ behindRun (now (buf .entry)) 0 (messageParts trade)) × (now (buf .exit) ≡ overRun (now (buf .entry)) 0 (messageParts trade)) ⌝ }
 {
     let at = put_header(buf, trade);
-    rows::put_rows(buf, at, &table::TABLE, trade)
+    rows::put_rows(buf, at, &table::TABLE, &table::SLOTS, trade)
 }
 
 // Writes the message of a record into a lent buffer. The record is judged first and the message composed elsewhere, so that

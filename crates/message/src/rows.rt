@@ -12,7 +12,7 @@ ghost use lib.ListN.{length, drop};
 ghost use Rattle.layout.specs.Rows.{rowOf, textAt, rowsOf};
 ghost use Rattle.values.specs.Values.{isAny};
 ghost use Rattle.message.specs.Messages.{behindKey};
-ghost use Rattle.message.specs.Walks.{overRun, behindRun, partsOf, lower, deeper, hasValue, anyRows, stands, puts, isOn, partsAt, offAt, openerAt, walkOf};
+ghost use Rattle.message.specs.Walks.{AreSlots, overRun, behindRun, partsOf, lower, deeper, hasValue, anyRows, stands, puts, isOn, partsAt, offAt, openerAt, walkOf};
 
 // Where the walk is: the place in the buffer, the blocks since one that does not stand, and the row of the last many blocks.
 struct Walk {
@@ -99,11 +99,20 @@ fn is_on(off: usize, kind: u8, slot: u8, rows: &[u8], row: usize, trade: Trade) 
 }
 
 // The first lines of one of many blocks.
-fn put_mark(buf: &mut [u8], at: usize, first: &[u8], key: &[u8], trade: Trade, slot: u8) -> usize
+fn put_mark(
+    buf: &mut [u8],
+    at: usize,
+    first: &[u8],
+    key: &[u8],
+    slots: &[u8],
+    trade: Trade,
+    slot: u8,
+) -> usize
+    requires { ⌜ AreSlots (now slots) ⌝ }
     ensures { λ r. ⌜ (r ≡ behindRun (now (buf .entry)) at (puts (partsOf trade) (now (first .entry)) (rowOf 8 slot (now (key .entry))))) × (now (buf .exit) ≡ overRun (now (buf .entry)) at (puts (partsOf trade) (now (first .entry)) (rowOf 8 slot (now (key .entry))))) ⌝ }
 {
     let from = parts::put_edge(buf, at, first);
-    parts::put_held(buf, from, key, trade, slot)
+    parts::put_held(buf, from, key, slots, trade, slot)
 }
 
 // A row that stands.
@@ -114,18 +123,20 @@ fn put_row(
     slot: u8,
     key: &[u8],
     first: &[u8],
+    slots: &[u8],
     trade: Trade,
 ) -> usize
+    requires { ⌜ AreSlots (now slots) ⌝ }
     ensures { λ r. ⌜ (r ≡ behindRun (now (buf .entry)) at (puts (partsOf trade) (now (first .entry)) (rowOf kind slot (now (key .entry))))) × (now (buf .exit) ≡ overRun (now (buf .entry)) at (puts (partsOf trade) (now (first .entry)) (rowOf kind slot (now (key .entry))))) ⌝ }
 {
     if parts::is_one(b"\x01\x02", kind) {
-        return parts::put_held(buf, at, key, trade, slot);
+        return parts::put_held(buf, at, key, slots, trade, slot);
     }
     if parts::is_one(b"\x03\x04\x05\x09", kind) {
         return parts::put_edge(buf, at, key);
     }
     if kind == 8 {
-        return put_mark(buf, at, first, key, trade, slot);
+        return put_mark(buf, at, first, key, slots, trade, slot);
     }
     at
 }
@@ -142,8 +153,8 @@ fn last_many(kind: u8, row: usize, many: usize) -> usize
 }
 
 // A row of the table.
-fn put_next(buf: &mut [u8], rows: &[u8], row: usize, trade: Trade, here: Walk) -> Walk
-    requires { ⌜ (row < length (now rows) / 16) × (here .off ≤ row) ⌝ }
+fn put_next(buf: &mut [u8], rows: &[u8], slots: &[u8], row: usize, trade: Trade, here: Walk) -> Walk
+    requires { ⌜ AreSlots (now slots) × (row < length (now rows) / 16) × (here .off ≤ row) ⌝ }
     ensures { λ r. ⌜ (now (buf .exit) ≡ overRun (now (buf .entry)) (here .at) (partsAt trade (now (rows .entry)) row (here .off) (here .many)))
         × (r .at ≡ behindRun (now (buf .entry)) (here .at) (partsAt trade (now (rows .entry)) row (here .off) (here .many)))
         × (r .off ≡ offAt trade (now (rows .entry)) row (here .off))
@@ -155,7 +166,7 @@ fn put_next(buf: &mut [u8], rows: &[u8], row: usize, trade: Trade, here: Walk) -
     if is_on(here.off, kind, slot, rows, row, trade) {
         let key = layout::row_text(rows, row);
         let first = layout::row_text(rows, here.many);
-        let at = put_row(buf, here.at, kind, slot, key, first, trade);
+        let at = put_row(buf, here.at, kind, slot, key, first, slots, trade);
         return Walk { at, off: 0, many };
     }
     Walk {
@@ -166,7 +177,8 @@ fn put_next(buf: &mut [u8], rows: &[u8], row: usize, trade: Trade, here: Walk) -
 }
 
 // All rows of the table.
-pub(crate) fn put_rows(buf: &mut [u8], at: usize, rows: &[u8], trade: Trade) -> usize
+pub(crate) fn put_rows(buf: &mut [u8], at: usize, rows: &[u8], slots: &[u8], trade: Trade) -> usize
+    requires { ⌜ AreSlots (now slots) ⌝ }
     ensures { λ r. ⌜ (r ≡ behindRun (now (buf .entry)) at (walkOf trade (now (rows .entry)))) × (now (buf .exit) ≡ overRun (now (buf .entry)) at (walkOf trade (now (rows .entry)))) ⌝ }
 {
     let count = rows.len() / 16;
@@ -177,7 +189,7 @@ pub(crate) fn put_rows(buf: &mut [u8], at: usize, rows: &[u8], trade: Trade) -> 
     };
     let mut row = 0;
     while row < count {
-        here = put_next(buf, rows, row, trade, here);
+        here = put_next(buf, rows, slots, row, trade, here);
         row += 1;
     }
     here.at

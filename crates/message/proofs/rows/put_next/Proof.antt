@@ -42,8 +42,8 @@ same-length c = search needs
 returns : tie.Need-returns
 returns c =
     let o = c .before .before .before .before .before .before .before .before in
-    let a = o .before .before .before .before .before .args in
-    next-on (behindKey (a .trade)) (partsOf (a .trade)) (a .rows .now) (a .row) (a .here .off) (a .here .many) _ (a .buf .now) (a .here .at) (o .before .before .before .before .before .pre .0) _
+    let a = o .before .before .before .before .before .before .args in
+    next-on (behindKey (a .trade)) (partsOf (a .trade)) (a .rows .now) (a .row) (a .here .off) (a .here .many) _ (a .buf .now) (a .here .at) (o .before .before .before .before .before .before .pre .1) _
     (c .before .before .before .before .before .before .before .is-on .ensures) (c .before .before .before .before .before .before .if1 .taken) (o .last-many .ensures) _ _ (c .before .before .before .before .before .row-text .ensures) (c .before .before .before .before .row-text2 .ensures) _ _ (c .before .before .put-row .ensures)
 
 deeper-requires : tie.Need-deeper-requires
@@ -52,8 +52,8 @@ deeper-requires c κs = search needs
 returns-2 : tie.Need-returns-2
 returns-2 c =
     let o = c .before .before .before in
-    let a = o .before .before .before .before .before .args in
-    next-past (behindKey (a .trade)) (partsOf (a .trade)) (a .rows .now) (a .row) (a .here .off) (a .here .many) _ (a .buf .now) (a .here .at) (o .before .before .before .before .before .pre .0) _
+    let a = o .before .before .before .before .before .before .args in
+    next-past (behindKey (a .trade)) (partsOf (a .trade)) (a .rows .now) (a .row) (a .here .off) (a .here .many) _ (a .buf .now) (a .here .at) (o .before .before .before .before .before .before .pre .1) _
     (c .before .before .is-on .ensures) (c .before .if1 .left) (o .last-many .ensures) _ (c .deeper .ensures)
 
 pub put-next-spec : {M : Type 1} → statement M

@@ -10,10 +10,10 @@ use Rattle.message.proofs.rows.put_rows.Statement.{statement}
 use Rattle.message.proofs.rows.put_rows.Tie as tie
 
 abbrev Inv-loop : tie.InvT-loop
-Inv-loop buf₀ at rows trade count here₀ row₀ buf here row = Same (behindKey trade) (partsOf trade) rows buf₀ at row (here .off) (here .many) buf (here .at)
+Inv-loop buf₀ at rows slots trade count here₀ row₀ buf here row = Same (behindKey trade) (partsOf trade) rows buf₀ at row (here .off) (here .many) buf (here .at)
 
 abbrev μ-loop : tie.MeasureT-loop
-μ-loop buf₀ at rows trade count here₀ row₀ buf here row = count - row
+μ-loop buf₀ at rows slots trade count here₀ row₀ buf here row = count - row
 
 loop-holds : tie.Need-loop-holds Inv-loop μ-loop
 loop-holds c = (refl, refl, omega arith, refl)
@@ -30,7 +30,7 @@ loop-less c = omega arith
 loop-again : tie.Need-loop-again Inv-loop μ-loop
 loop-again c =
     let l = c .before .before .before .before .before in
-    let a = l .before .before .before .args in
+    let a = l .before .before .before .before .args in
     rows-more (behindKey (a .trade)) (partsOf (a .trade)) (a .rows .now) (a .buf .now) (a .at) _ _ _ _ _ (l .loop .inv) (c .before .before .before .before .loop-test .taken) _ _ _ _
     (c .before .before .put-next .ensures)
 
@@ -40,7 +40,7 @@ same-length c = search needs
 returns : tie.Need-returns Inv-loop μ-loop
 returns c =
     let l = c .before in
-    let a = l .before .before .before .args in
+    let a = l .before .before .before .before .args in
     rows-done (behindKey (a .trade)) (partsOf (a .trade)) (a .rows .now) (a .buf .now) (a .at) _ _ _ _ _ (l .loop .inv) (c .loop-test .left)
 
 pub put-rows-spec : {M : Type 1} → statement M
