@@ -1,24 +1,24 @@
 -- The mathematics of the crate's functions, over plain lists and numbers: a line's CR, the line from a place, and what each
 -- turn of a scan says of the pass over the whole message.
 -- Assumes nothing.
-use Prim.Native.Nat.{ℕ, suc, _+_, _-_, _≤_, _<_, min}
-use mathlib.Core.Path.{_≡_, refl, sym, ap, _∙_}
-use mathlib.Core.Bool.{Bool, true, false, _&&_, cond, or-false, and-false}
-use mathlib.Core.List.{List, [], _∷_}
-use native.Mathlib.Nat.{not-suc-le-zero, add-zero}
+use Prim.Native.Nat.{ℕ, zero, suc, _+_, _-_, _≤_, _<_, min}
+use mathlib.Core.Path.{_≡_, refl, sym, ap, subst, _∙_}
+use mathlib.Core.Bool.{Bool, true, false, _&&_, cond, and-true, and-false}
+use mathlib.Core.List.{List, [], _∷_, _++_, append-nil}
+use native.Mathlib.Nat.{not-suc-le-zero, add-zero, zero-add, suc-add}
 use native.Mathlib.Numerals.{add-one}
 use native.Mathlib.Omega.{arith}
-use lib.Dec.{leb, eqb}
+use lib.Dec.{leb, ltb, eqb, eqb·suc-zero}
 use lib.ListN.{length, take, drop, getD, length-drop, drop-of-length-le}
-use lib.Seq.{drop-cons, length-take-le}
-use borrow.Author.Tests.{le-leb, lt-leb, eq-eqb, ne-eqb}
+use lib.Seq.{getD-drop, drop-drop, length-take-le}
+use borrow.Author.Tests.{ltb-true, ltb-false, leb-true, le-leb, lt-leb, eq-eqb, ne-eqb, eqb-true}
 use Rattle.text.specs.Bytes.{bytes, begins, same, before}
 use Rattle.text.specs.Classes.{isBetween}
-use Rattle.text.proofs.Laws.{before-front, before-length, rest-of}
+use Rattle.text.proofs.Laws.{and-left, and-right, begins-is, before-front, before-length, rest-of}
 use Rattle.lines.specs.Verdicts.{refused, pass, then}
 use Rattle.lines.specs.Lines.{bare, linesOf, ended, sizePass, mayStand, bytePass, endPass, linesPass, lineAt}
 use Rattle.lines.specs.declared.Verdict.{Verdict}
-use Rattle.lines.proofs.Laws.{bare-length, Located, lines-step, lines-behind}
+use Rattle.lines.proofs.Laws.{bare-length, lines-step, lines-behind}
 
 -- ---- a line's CR
 
@@ -93,52 +93,148 @@ module _ (m : List ℕ) (at n k : ℕ) (en : n ≡ length (before 10 (take (leng
       let z : at + n ≡ at + min (n + 1) (length (drop at m)) = omega arith in
       rw (← raw-is, ← end-is, z)
 
--- ---- a byte where it stands
+-- ---- a text: bytes from 20 to 7E hex
 
-module _ (b : ℕ) (s : List ℕ) where
-  pub stands-lf : b ≡ 10 → true ≡ mayStand b s
-  unfolding mayStand isBetween
-  stands-lf e = rw e
+abbrev pub Prints : List ℕ → ℕ → Type 0
+Prints s n = (j : ℕ) → j < n → isBetween 32 126 (getD s j 0) ≡ true
 
-  pub stands-cr : b ≡ 13 → begins (bytes "\n") s ≡ mayStand b s
-  unfolding mayStand isBetween
-  stands-cr e = rw e
+-- a part begins with n of them and no more
+abbrev pub Front : List ℕ → ℕ → Type 0
+Front s n = (n ≤ length s) × Prints s n × (n < length s → isBetween 32 126 (getD s n 0) ≡ false)
 
-  module _ (lf : b ≡ 10 → ⊥) (cr : b ≡ 13 → ⊥) where
-    stands-other : isBetween 32 126 b ≡ mayStand b s
-    unfolding mayStand
-    stands-other = rw (ne-eqb b 10 lf, ne-eqb b 13 cr) (sym (or-false (isBetween 32 126 b)))
-
-    pub stands-low : b < 32 → false ≡ mayStand b s
-    unfolding isBetween
-    stands-low h = rw (lt-leb 32 b h) at stands-other
-
-  pub stands-high : 32 ≤ b → leb b 126 ≡ mayStand b s
+module _ (s : List ℕ) (i : ℕ) (short : i ≤ length s) (so-far : Prints s i) where
+  pub text-low : getD s i 0 < 32 → Front s i
   unfolding isBetween
-  stands-high h = rw (le-leb 32 b h) at (stands-other (λ e. omega (arith, h, e)) (λ e. omega (arith, h, e)))
+  text-low h = (short, so-far, λ _. rw (lt-leb 32 _ h))
 
--- ---- the bytes, from a place on
+  pub text-high : 126 < getD s i 0 → Front s i
+  unfolding isBetween
+  text-high h = (short, so-far, λ _. rw (lt-leb _ 126 h) (and-false (leb 32 (getD s i 0))))
 
-module _ (m : List ℕ) (line i : ℕ) (inv : bytePass line (drop i m) ≡ bytePass 1 m) where
-  bytes-step : i < length m → bytePass 1 m ≡ cond (mayStand (getD m i 0) (drop (i + 1) m)) (bytePass (cond (eqb (getD m i 0) 10) (suc line) line) (drop (i + 1) m)) (refused 2 line)
-  unfolding bytePass
-  bytes-step h = sym inv ∙ rw (add-one, drop-cons m i 0)
+  pub text-more : 32 ≤ getD s i 0 → getD s i 0 ≤ 126 → Prints s (i + 1)
+  unfolding isBetween
+  text-more h g j l = at (ltb j i) refl
+    where
+      at : (t : Bool) → ltb j i ≡ t → isBetween 32 126 (getD s j 0) ≡ true
+      at true t = so-far j (ltb-true _ _ t)
+      at false t = let x : j ≡ i = omega (arith, ltb-false j i t) in rw (x, le-leb 32 (getD s i 0) h, le-leb (getD s i 0) 126 g)
 
-  module _ (h : i < length m) where
-    pub bytes-stop : mayStand (getD m i 0) (drop (i + 1) m) ≡ false → refused 2 line ≡ bytePass 1 m
-    bytes-stop e = sym (bytes-step h ∙ rw e)
+  pub text-done : length s ≤ i → Front s i
+  text-done h = (short, so-far, λ l. let z : ⊥ = omega arith in absurd z)
 
-    pub bytes-line : mayStand (getD m i 0) (drop (i + 1) m) ≡ true → getD m i 0 ≡ 10 → bytePass (line + 1) (drop (i + 1) m) ≡ bytePass 1 m
-    bytes-line e t = sym (bytes-step h ∙ rw (e, eq-eqb _ _ t, add-one line))
+-- such a byte is part of no ending, and may stand anywhere
+module _ (b : ℕ) (e : isBetween 32 126 b ≡ true) where
+  print-low : 32 ≤ b
+  unfolding isBetween
+  print-low = leb-true _ _ (and-left (leb 32 b) _ e)
 
-    pub bytes-same : mayStand (getD m i 0) (drop (i + 1) m) ≡ true → (getD m i 0 ≡ 10 → ⊥) → bytePass line (drop (i + 1) m) ≡ bytePass 1 m
-    bytes-same e t = sym (bytes-step h ∙ rw (e, ne-eqb _ _ t))
+  print-lf : eqb b 10 ≡ false
+  print-lf = let l = print-low in ne-eqb b 10 (λ x. omega (arith, l, x))
 
-  pub bytes-done : length m ≤ i → pass ≡ bytePass 1 m
-  unfolding bytePass
-  bytes-done h = sym (sym inv ∙ ap (bytePass line) (drop-of-length-le m h))
+  bare-print : (s : List ℕ) → bare (b ∷ s) ≡ b ∷ bare s
+  unfolding bare
+  bare-print [] = let l = print-low in rw (ne-eqb b 13 (λ x. omega (arith, l, x)))
+  bare-print (c ∷ s) = refl
 
--- ---- the end, from a line on
+  print-stands : (s : List ℕ) → mayStand b s ≡ true
+  unfolding mayStand
+  print-stands s = rw e
+
+tail-prints : (b n : ℕ) (s : List ℕ) → Prints (b ∷ s) (suc n) → Prints s n
+tail-prints b n s p j h = p (suc j) (omega arith)
+
+-- so the bytes are judged by what stands behind the text
+text-bytes : (n line : ℕ) (s : List ℕ) → Prints s n → bytePass line s ≡ bytePass line (drop n s)
+unfolding bytePass
+text-bytes zero line s p = refl
+text-bytes (suc n) line [] p = refl
+text-bytes (suc n) line (b ∷ s) p =
+    let e : isBetween 32 126 b ≡ true = p 0 (omega arith) in
+    rw (print-stands b e s, print-lf b e) (text-bytes n line s (tail-prints b n s p))
+
+-- and the line is the text and what is left of the line there
+text-line : (n : ℕ) (s : List ℕ) → n ≤ length s → Prints s n
+    → (bare (before 10 s) ≡ take n s ++ bare (before 10 (drop n s))) × (length (before 10 s) ≡ n + length (before 10 (drop n s)))
+unfolding before
+text-line zero s h p = (refl, sym (zero-add _))
+text-line (suc n) [] h p = absurd (not-suc-le-zero h)
+text-line (suc n) (b ∷ s) h p =
+    let e : isBetween 32 126 b ≡ true = p 0 (omega arith) in
+    let r = text-line n s (omega arith) (tail-prints b n s p) in
+    (rw (print-lf b e, bare-print b e (before 10 s)) (ap (λ (l : List ℕ). b ∷ l) (r .0)), rw (print-lf b e) (ap suc (r .1) ∙ sym (suc-add n _)))
+
+-- ---- an ending
+
+abbrev pub endingOf : List ℕ → ℕ
+endingOf t = cond (eqb (length t) 0) 0 (cond (begins (bytes "\n") t) 1 (cond (begins (bytes "\r\n") t) 2 3))
+
+ending-cons : (b : ℕ) (t : List ℕ) → endingOf (b ∷ t) ≡ cond (eqb b 10) 1 (cond (begins (bytes "\r\n") (b ∷ t)) 2 3)
+unfolding begins bytes
+ending-cons b t = rw (eqb·suc-zero (length t), and-true (eqb b 10))
+
+module _ (t : List ℕ) where
+  pub ending-none : length t ≡ 0 → 0 ≡ endingOf t
+  ending-none h = rw h
+
+  module _ (some : length t ≡ 0 → ⊥) where
+    ending-is : endingOf t ≡ cond (eqb (getD t 0 0) 10) 1 (cond (begins (bytes "\r\n") t) 2 3)
+    ending-is = at t some
+      where
+        at : (t : List ℕ) → (length t ≡ 0 → ⊥) → endingOf t ≡ cond (eqb (getD t 0 0) 10) 1 (cond (begins (bytes "\r\n") t) 2 3)
+        at [] h = absurd (h refl)
+        at (b ∷ t) h = ending-cons b t
+
+    pub ending-lf : getD t 0 0 ≡ 10 → 1 ≡ endingOf t
+    ending-lf e = sym (ending-is ∙ rw (eq-eqb _ _ e))
+
+    module _ (lf : getD t 0 0 ≡ 10 → ⊥) where
+      pub ending-crlf : begins (bytes "\r\n") t ≡ true → 2 ≡ endingOf t
+      ending-crlf e = sym (ending-is ∙ rw (ne-eqb _ _ lf, e))
+
+      pub ending-other : begins (bytes "\r\n") t ≡ false → 3 ≡ endingOf t
+      ending-other e = sym (ending-is ∙ rw (ne-eqb _ _ lf, e))
+
+-- what stands behind a text, where it is an ending of k bytes or the end of the message
+record Ends (t : List ℕ) (k : ℕ) : Type 0 where
+  rest : (line : ℕ) → bytePass line t ≡ bytePass (suc line) (drop k t)
+  bare-of : bare (before 10 t) ≡ []
+  behind : drop (length (before 10 t) + 1) t ≡ drop k t
+  within : k ≤ length t
+  some : min 1 (length t) ≤ k
+
+ends-lf : (t : List ℕ) → Ends (10 ∷ t) 1
+unfolding bytePass mayStand isBetween before bare
+ends-lf t = record { rest = λ line. refl; bare-of = refl; behind = refl; within = omega arith; some = omega arith }
+
+ends-crlf : (t : List ℕ) → Ends (13 ∷ 10 ∷ t) 2
+unfolding bytePass mayStand isBetween before bare begins bytes
+ends-crlf t = record { rest = λ line. refl; bare-of = refl; behind = refl; within = omega arith; some = omega arith }
+
+ends-here : (t : List ℕ) → (endingOf t ≡ 3 → ⊥) → Ends t (endingOf t)
+unfolding bytePass before bare begins bytes
+ends-here [] h = record { rest = λ line. refl; bare-of = refl; behind = refl; within = omega arith; some = omega arith }
+ends-here (b ∷ t) h = subst (Ends (b ∷ t)) (sym (ending-cons b t)) (at (eqb b 10) refl (eqb b 13 && begins (10 ∷ []) t) refl (λ x. h (ending-cons b t ∙ x)))
+  where
+    at : (l : Bool) → eqb b 10 ≡ l → (c : Bool) → (eqb b 13 && begins (10 ∷ []) t) ≡ c → (_≡_ {A = ℕ} (cond l 1 (cond c 2 3)) 3 → ⊥) → Ends (b ∷ t) (cond l 1 (cond c 2 3))
+    at true e c f h = subst (λ x. Ends (x ∷ t) 1) (sym (eqb-true b 10 e)) (ends-lf t)
+    at false e true f h =
+        let cr : b ≡ 13 = eqb-true b 13 (and-left (eqb b 13) _ f) in
+        let lf : t ≡ 10 ∷ drop 1 t = begins-is (10 ∷ []) t (and-right (eqb b 13) _ f) in
+        subst (λ x. Ends (x ∷ t) 2) (sym cr) (subst (λ x. Ends (13 ∷ x) 2) (sym lf) (ends-crlf (drop 1 t)))
+    at false e false f h = absurd (h refl)
+
+-- and where it is neither
+no-ending : (t : List ℕ) (line : ℕ) → endingOf t ≡ 3 → (0 < length t → isBetween 32 126 (getD t 0 0) ≡ false) → bytePass line t ≡ refused 2 line
+unfolding bytePass mayStand begins bytes
+no-ending [] line h p = let z : ⊥ = omega arith in absurd z
+no-ending (b ∷ t) line h p = at (eqb b 10) refl (eqb b 13 && begins (10 ∷ []) t) refl (sym (ending-cons b t) ∙ h)
+  where
+    at : (l : Bool) → eqb b 10 ≡ l → (c : Bool) → (eqb b 13 && begins (10 ∷ []) t) ≡ c → _≡_ {A = ℕ} (cond l 1 (cond c 2 3)) 3 → bytePass line (b ∷ t) ≡ refused 2 line
+    at true e c f h = let z : ⊥ = omega arith in absurd z
+    at false e true f h = let z : ⊥ = omega arith in absurd z
+    at false e false f h = rw (p (omega arith), e, f)
+
+-- ---- the end
 
 -- the last byte tells whether the last line has its ending
 ended-is : (b : ℕ) (s : List ℕ) → ended (b ∷ s) ≡ eqb (getD (b ∷ s) (length s) 0) 10
@@ -146,50 +242,137 @@ unfolding ended
 ended-is b [] = refl
 ended-is b (c ∷ s) = ended-is c s
 
-pub ended-last : (m : List ℕ) → 0 < length m → ended m ≡ eqb (getD m (length m - 1) 0) 10
+ended-last : (m : List ℕ) → 0 < length m → ended m ≡ eqb (getD m (length m - 1) 0) 10
 ended-last [] h = absurd (not-suc-le-zero h)
 ended-last (b ∷ s) h = let n : suc (length s) - 1 ≡ length s = omega arith in rw n (ended-is b s)
 
-module _ (m : List ℕ) (line at end next : ℕ) (whole : Verdict) (inv : endPass (ended m) line (linesOf (drop at m)) ≡ whole) (here : Located m at end next) (dash : Bool) (is : dash ≡ same (bytes "-") (take (end - at) (drop at m))) where
-  module _ (h : next ≡ length m) where
-    -- the last line has to be an ended `-`
-    end-last : cond (dash && ended m) pass (refused 3 line) ≡ whole
-    unfolding endPass
-    end-last =
-        let none : linesOf (drop next m) ≡ [] = lines-behind m next (omega arith) in
-        sym (sym inv ∙ rw (here .go-on, none, ← is))
+-- behind the last line, whose number is `last`, where the first line that is `-` is `end`, 0 for none
+abbrev pub closed : Bool → ℕ → ℕ → Verdict
+closed e end last = cond (eqb end 0) (refused 3 last) (cond (eqb end last && e) pass (refused 3 end))
 
-    pub end-other : dash ≡ false → refused 3 line ≡ whole
-    end-other e = rw e at end-last
+pub closed-none : (e : Bool) (end last : ℕ) → end ≡ 0 → refused 3 last ≡ closed e end last
+closed-none e end last z = rw z
 
-    module _ (e : dash ≡ true) where
-      last-byte : ended m ≡ eqb (getD m (length m - 1) 0) 10
-      last-byte = let g = here .grows in ended-last m (omega arith)
+module _ (m : List ℕ) (end last : ℕ) (some : end ≡ 0 → ⊥) where
+  pub closed-early : (end ≡ last → ⊥) → refused 3 end ≡ closed (ended m) end last
+  closed-early h = rw (ne-eqb end 0 some, ne-eqb end last h)
 
-      pub end-open : (getD m (length m - 1) 0 ≡ 10 → ⊥) → refused 3 line ≡ whole
-      end-open n = rw (e, last-byte, ne-eqb _ _ n) at end-last
+  module _ (h : end ≡ last) (l : 0 < length m) where
+    pub closed-open : (getD m (length m - 1) 0 ≡ 10 → ⊥) → refused 3 end ≡ closed (ended m) end last
+    closed-open n = rw (ne-eqb end 0 some, eq-eqb end last h, ended-last m l, ne-eqb _ _ n)
 
-      pub end-good : getD m (length m - 1) 0 ≡ 10 → pass ≡ whole
-      end-good n = rw (e, last-byte, eq-eqb _ _ n) at end-last
+    pub closed-good : getD m (length m - 1) 0 ≡ 10 → pass ≡ closed (ended m) end last
+    closed-good n = rw (ne-eqb end 0 some, eq-eqb end last h, ended-last m l, eq-eqb _ _ n)
 
-  module _ (h : next ≡ length m → ⊥) where
-    end-step : cond dash (refused 3 line) (endPass (ended m) (line + 1) (linesOf (drop next m))) ≡ whole
-    unfolding endPass
-    end-step =
-        let w = here .within in
-        let l = length-drop next m in
-        let more = lines-step (drop next m) (omega arith) in
-        sym (sym inv ∙ rw (here .go-on, more, ← is, add-one line))
+-- the first line that is `-` when one more line, `line`, is known
+abbrev pub firstEnd : ℕ → ℕ → List ℕ → ℕ
+firstEnd known line text = cond (eqb known 0 && same (bytes "-") text) line known
 
-    pub end-early : dash ≡ true → refused 3 line ≡ whole
-    end-early e = rw e at end-step
+module _ (known line : ℕ) (text : List ℕ) where
+  pub first-known : (known ≡ 0 → ⊥) → known ≡ firstEnd known line text
+  first-known h = rw (ne-eqb known 0 h)
 
-    pub end-more : dash ≡ false → endPass (ended m) (line + 1) (linesOf (drop next m)) ≡ whole
-    end-more e = rw e at end-step
+  pub first-here : known ≡ 0 → same (bytes "-") text ≡ true → line ≡ firstEnd known line text
+  first-here h e = rw (eq-eqb known 0 h, e)
 
-pub end-none : (m : List ℕ) (line at : ℕ) (whole : Verdict) → endPass (ended m) line (linesOf (drop at m)) ≡ whole → length m ≤ at → refused 3 line ≡ whole
-unfolding endPass
-end-none m line at whole inv h = sym (sym inv ∙ rw (lines-behind m at h))
+  pub first-none : same (bytes "-") text ≡ false → known ≡ firstEnd known line text
+  first-none e = rw (e, and-false (eqb known 0))
+
+-- so over the lines behind line n
+unfoldable pub closing : Bool → ℕ → ℕ → List (List ℕ) → Verdict
+closing e end n [] = closed e end n
+closing e end n (l ∷ ls) = closing e (firstEnd end (suc n) l) (suc n) ls
+
+-- a `-` that has lines behind it is early
+closing-early : (e : Bool) (end n : ℕ) (ls : List (List ℕ)) → (end ≡ 0 → ⊥) → end < n → closing e end n ls ≡ refused 3 end
+unfolding closing
+closing-early e end n [] some h = rw (ne-eqb end 0 some, ne-eqb end n (λ x. omega (arith, h, x)))
+closing-early e end n (l ∷ ls) some h = rw (ne-eqb end 0 some) (closing-early e end (suc n) ls some (omega arith))
+
+closing-is : (e : Bool) (n : ℕ) (l : List ℕ) (ls : List (List ℕ)) → closing e 0 n (l ∷ ls) ≡ endPass e (suc n) (l ∷ ls)
+unfolding closing endPass
+closing-is e n l [] = at (same (bytes "-") l)
+  where
+    at : (t : Bool) → closed e (cond t (suc n) 0) (suc n) ≡ cond (t && e) pass (refused 3 (suc n))
+    at true = rw (eqb·suc-zero n, eq-eqb (suc n) (suc n) refl)
+    at false = refl
+closing-is e n l (k ∷ ls) = at (closing-is e (suc n) k ls) (same (bytes "-") l)
+  where
+    at : closing e 0 (suc n) (k ∷ ls) ≡ endPass e (suc (suc n)) (k ∷ ls) → (t : Bool)
+        → closing e (cond t (suc n) 0) (suc n) (k ∷ ls) ≡ cond t (refused 3 (suc n)) (endPass e (suc (suc n)) (k ∷ ls))
+    at ih true = rw (eqb·suc-zero n) (closing-early e (suc n) (suc (suc n)) ls (λ x. omega (arith, x)) (omega arith))
+    at ih false = ih
+
+-- ---- bytes and end together, from a line on
+
+-- the answer for what is left from a place on, behind line n
+abbrev pub left : List ℕ → ℕ → ℕ → ℕ → Verdict
+left m n end at = then (bytePass (n + 1) (drop at m)) (closing (ended m) end n (linesOf (drop at m)))
+
+-- a turn from there on, with k bytes of text and an ending of c bytes: it stops, or it grows and goes on behind the ending
+pub record Turn (m : List ℕ) (n end at k c : ℕ) (text : List ℕ) : Type 0 where
+  pub stops : c ≡ 3 → refused 2 (n + 1) ≡ left m n end at
+  pub grows : (c ≡ 3 → ⊥) → (0 < k + c) × (at + (k + c) ≤ length m)
+  pub goes-on : (c ≡ 3 → ⊥) → (known : ℕ) → known ≡ firstEnd end (n + 1) text → left m (n + 1) known (at + (k + c)) ≡ left m n end at
+
+pub left-all : (m : List ℕ) → 0 < length m → left m 0 0 0 ≡ then (bytePass 1 m) (endPass (ended m) 1 (linesOf m))
+left-all m h = rw (lines-step m h, closing-is (ended m) 0)
+
+module _ (m : List ℕ) (n end at : ℕ) where
+  pub left-none : length m ≤ at → closed (ended m) end n ≡ left m n end at
+  unfolding closing bytePass then pass refused
+  left-none h = rw (lines-behind m at h, drop-of-length-le m h)
+
+  module _ (h : at < length m) (s : List ℕ) (es : s ≡ drop at m) (k : ℕ) (front : Front s k) (t : List ℕ) (et : t ≡ drop k s) (c : ℕ) (is : c ≡ endingOf t) where
+    -- what stands behind the text is no byte of a text
+    other : 0 < length t → isBetween 32 126 (getD t 0 0) ≡ false
+    other l =
+        let ls = length-drop k s in
+        let lt = ap length et in
+        rw (et, getD-drop k s 0 0, add-zero k) (front .2 (omega arith))
+
+    left-stop : c ≡ 3 → refused 2 (n + 1) ≡ left m n end at
+    unfolding then refused
+    left-stop e =
+        let three : endingOf t ≡ 3 = sym is ∙ e in
+        let judged : bytePass (n + 1) s ≡ refused 2 (n + 1) = text-bytes k (n + 1) s (front .1) ∙ ap (bytePass (n + 1)) (sym et) ∙ no-ending t (n + 1) three other in
+        rw (← es, judged)
+
+    module _ (e : c ≡ 3 → ⊥) where
+      ends : Ends t c
+      ends = rw is (ends-here t (λ x. e (is ∙ x)))
+
+      left-grows : (0 < k + c) × (at + (k + c) ≤ length m)
+      left-grows =
+          let d = ends in
+          let ls = length-drop k s in
+          let lt = ap length et in
+          let lm = length-drop at m in
+          let lr = ap length es in
+          let f = front .0 in
+          (omega arith, omega arith)
+
+      behind-here : drop (at + (k + c)) m ≡ drop c t
+      behind-here = sym (drop-drop (k + c) at m) ∙ ap (drop (k + c)) (sym es) ∙ sym (drop-drop c k s) ∙ ap (drop c) (sym et)
+
+      lines-here : linesOf s ≡ take k s ∷ linesOf (drop c t)
+      lines-here =
+          let d = ends in
+          let l = text-line k s (front .0) (front .1) in
+          let some : 0 < length s = let lm = length-drop at m in let lr = ap length es in omega arith in
+          let text : bare (before 10 s) ≡ take k s = l .0 ∙ rw (← et, d .bare-of) (append-nil (take k s)) in
+          let skip : length (before 10 s) + 1 ≡ k + (length (before 10 t) + 1) = rw et (let x = l .1 in omega arith) in
+          let rest : drop (length (before 10 s) + 1) s ≡ drop c t = ap (λ (x : ℕ). drop x s) skip ∙ sym (drop-drop _ k s) ∙ rw (← et) (d .behind) in
+          lines-step s some ∙ rw (text, rest)
+
+      left-more : left m (n + 1) (firstEnd end (n + 1) (take k s)) (at + (k + c)) ≡ left m n end at
+      unfolding closing
+      left-more =
+          let judged : bytePass (n + 1) s ≡ bytePass (suc (n + 1)) (drop c t) = text-bytes k (n + 1) s (front .1) ∙ ap (bytePass (n + 1)) (sym et) ∙ ends .rest (n + 1) in
+          rw (behind-here, ← es, judged, lines-here, add-one (n + 1), add-one n)
+
+    pub turn : Turn m n end at k c (take k s)
+    turn = record { stops = left-stop; grows = left-grows; goes-on = λ e known is. rw is (left-more e) }
 
 -- ---- the size
 

@@ -2,9 +2,14 @@
 //
 // What is right stands in specs/Verdicts and specs/Lines.
 ghost use mathlib.Core.Path.{_≡_};
-ghost use Prim.Native.Nat.{_+_, _<_};
-ghost use lib.ListN.{length, drop, getD};
-ghost use Rattle.lines.specs.Lines.{bare, mayStand, bytePass, endPass, linesPass, linesOf, ended, lineAt};
+ghost use mathlib.Core.Bool.{true, false, _&&_, cond};
+ghost use Prim.Native.Nat.{ℕ, _≤_, _<_};
+ghost use lib.Dec.{eqb};
+ghost use lib.ListN.{length, getD};
+ghost use Rattle.text.specs.Bytes.{bytes, begins, same};
+ghost use Rattle.text.specs.Classes.{isBetween};
+ghost use Rattle.lines.specs.Verdicts.{refused, pass, then};
+ghost use Rattle.lines.specs.Lines.{bare, bytePass, endPass, linesPass, linesOf, ended, lineAt};
 
 // What the desk gets back of a pass: a number of document 01, 0 for nothing wrong, and the line.
 pub struct Verdict {
@@ -18,8 +23,8 @@ pub struct Line {
     pub next: usize,
 }
 
-// Lines are counted from 1.
-const FIRST: usize = 1;
+// No line ending stands here.
+const NO_ENDING: usize = 3;
 
 impl Verdict {
     pub const PASS: Verdict = Verdict { number: 0, line: 0 };
@@ -58,69 +63,101 @@ pub fn line_at(message: &[u8], at: usize) -> Line
     Line { end, next: at + n }
 }
 
-// The byte at a place may stand there. What nearly every byte is, is asked first.
-fn may_stand(message: &[u8], at: usize) -> bool
-    requires { ⌜ at < length (now message) ⌝ }
-    ensures { λ r. ⌜ r ≡ mayStand (getD (now (message .entry)) at 0) (drop (at + 1) (now (message .entry))) ⌝ }
+// How many bytes from 20 to 7E hex a part begins with.
+fn text_length(part: &[u8]) -> usize
+    ensures { λ r. ⌜ (r ≤ length (now (part .entry))) × ((j : ℕ) → j < r → isBetween 32 126 (getD (now (part .entry)) j 0) ≡ true) × (r < length (now (part .entry)) → isBetween 32 126 (getD (now (part .entry)) r 0) ≡ false) ⌝ }
 {
-    let byte = message[at];
-    if 32 <= byte {
-        return byte <= 126;
+    let mut i = 0;
+    while i < part.len() {
+        let byte = part[i];
+        if byte < 32 {
+            return i;
+        }
+        if 126 < byte {
+            return i;
+        }
+        i += 1;
     }
-    if byte == b'\n' {
-        return true;
-    }
-    if byte == b'\r' {
-        return text::begins_with(&message[at + 1..], b"\n");
-    }
-    false
+    i
 }
 
-// 2, at the first line with a byte that may not stand where it stands.
-fn check_bytes(message: &[u8]) -> Verdict
-    ensures { λ r. ⌜ r ≡ bytePass 1 (now (message .entry)) ⌝ }
+// How many bytes of line ending a part begins with: 0 where the message ends there, `NO_ENDING` where another byte stands.
+fn ending(part: &[u8]) -> usize
+    ensures { λ r. ⌜ r ≡ cond (eqb (length (now (part .entry))) 0) 0 (cond (begins (bytes "\n") (now (part .entry))) 1 (cond (begins (bytes "\r\n") (now (part .entry))) 2 3)) ⌝ }
 {
-    let mut line = FIRST;
-    let mut i = 0;
-    while i < message.len() {
-        if !may_stand(message, i) {
-            return Verdict { number: 2, line };
-        }
-        let passed = message[i];
-        i += 1;
-        if passed == b'\n' {
-            line += 1;
-        }
+    if part.len() == 0 {
+        return 0;
+    }
+    if part[0] == b'\n' {
+        return 1;
+    }
+    if text::begins_with(part, b"\r\n") {
+        return 2;
+    }
+    NO_ENDING
+}
+
+// The first line that is `-`, 0 for none: the one that is known, or else this line.
+fn first_end(known: usize, line: usize, text: &[u8]) -> usize
+    ensures { λ r. ⌜ r ≡ cond (eqb known 0 && same (bytes "-") (now (text .entry))) line known ⌝ }
+{
+    if known != 0 {
+        return known;
+    }
+    if text::equals(text, b"-") {
+        return line;
+    }
+    known
+}
+
+// 3, at `end`, the first line that is `-`, if it is not the last or has no ending; at the last line if there is none, which 0
+// stands for.
+fn check_end(message: &[u8], end: usize, last: usize) -> Verdict
+    requires { ⌜ 0 < length (now message) ⌝ }
+    ensures { λ r. ⌜ r ≡ cond (eqb end 0) (refused 3 last) (cond (eqb end last && ended (now (message .entry))) pass (refused 3 end)) ⌝ }
+{
+    if end == 0 {
+        return Verdict {
+            number: 3,
+            line: last,
+        };
+    }
+    if end != last {
+        return Verdict {
+            number: 3,
+            line: end,
+        };
+    }
+    if message[message.len() - 1] != b'\n' {
+        return Verdict {
+            number: 3,
+            line: end,
+        };
     }
     Verdict::PASS
 }
 
-// 3, at the first line that is `-` before the end, or else at the last line if it is not an ended `-`.
-fn check_end(message: &[u8]) -> Verdict
-    ensures { λ r. ⌜ r ≡ endPass (ended (now (message .entry))) 1 (linesOf (now (message .entry))) ⌝ }
+// 2, at the first line with a byte that may not stand where it stands, and else 3. A `-` before the end is remembered and said
+// behind the loop, since a wrong byte further on comes before it.
+fn check_lines(message: &[u8]) -> Verdict
+    requires { ⌜ 0 < length (now message) ⌝ }
+    ensures { λ r. ⌜ r ≡ then (bytePass 1 (now (message .entry))) (endPass (ended (now (message .entry))) 1 (linesOf (now (message .entry)))) ⌝ }
 {
-    let mut line = FIRST;
+    let mut line = 0;
+    let mut end = 0;
     let mut at = 0;
     while at < message.len() {
-        let here = line_at(message, at);
-        let end = here.end;
-        let is_end = text::equals(&message[at..end], b"-");
-        if here.next == message.len() {
-            if !is_end {
-                return Verdict { number: 3, line };
-            }
-            if message[message.len() - 1] != b'\n' {
-                return Verdict { number: 3, line };
-            }
-            return Verdict::PASS;
-        }
-        if is_end {
-            return Verdict { number: 3, line };
-        }
-        at = here.next;
         line += 1;
+        let rest = &message[at..];
+        let n = text_length(rest);
+        let width = ending(&rest[n..]);
+        if width == NO_ENDING {
+            return Verdict { number: 2, line };
+        }
+        end = first_end(end, line, &rest[..n]);
+        at += n + width;
     }
-    Verdict { number: 3, line }
+    check_end(message, end, line)
 }
 
 // 1, 2 and 3, in that order.
@@ -133,9 +170,5 @@ pub fn check(message: &[u8]) -> Verdict
     if 4096 < message.len() {
         return Verdict { number: 1, line: 0 };
     }
-    let bytes = check_bytes(message);
-    if bytes.number != 0 {
-        return bytes;
-    }
-    check_end(message)
+    check_lines(message)
 }
