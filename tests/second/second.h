@@ -1,4 +1,5 @@
-/* second.h - a second program for the MT515 of four kinds, written from document 01 alone.
+/* second.h - a second program for the MT515 of four kinds, written from document 01
+ * and the readings of it, without sight of the first program's sources.
  *
  * It shares no code with the first program; it exists to be compared with it.
  * Nothing here takes memory from the heap and nothing keeps state between calls.
