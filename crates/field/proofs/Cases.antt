@@ -8,7 +8,7 @@ use mathlib.Core.List.{List, [], _∷_, map, head-eq-of-cons-eq, tail-eq-of-cons
 use lib.ListN.{length, drop}
 use Rattle.text.specs.Bytes.{bytes, begins, same, before}
 use Rattle.text.specs.Classes.{isBetween}
-use Rattle.lines.specs.Lines.{inFront, cutLines, bare, linesOf, lineAt}
+use Rattle.lines.specs.Lines.{inFront, cutLines, bare, linesOf, lineAt, startBehind, endOf}
 use Rattle.layout.specs.Layout.{Taken, fits, isSeen, lacks, beneath, against, look, onward, scan, stepOf, withTaken, marked, behind, runOf, layoutOf}
 use Rattle.table.specs.Table.{table, slots, slotOf}
 use Rattle.mt515.specs.Body.{bodyOf, takenIn}
@@ -17,7 +17,7 @@ use Rattle.mt515.specs.Reading.{readOf}
 use Rattle.mt515.specs.declared.Reading.{Reading}
 use Rattle.mt515.proofs.Cases.{answered as read-b}
 use Rattle.field.specs.Cases.{fields, offsets, Answered}
-use Rattle.field.specs.Field.{noLine, takenFor, asked, lineFor, frontOf, fieldOf, startBehind, endOf, placeOf}
+use Rattle.field.specs.Field.{noLine, takenFor, asked, lineFor, frontOf, fieldOf, placeOf}
 
 -- of an accepted message: the line of a slot, its value, and where that begins
 lineIn : List ℕ → ℕ → Taken

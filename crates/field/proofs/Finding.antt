@@ -16,7 +16,8 @@ use borrow.Author.Tests.{eq-eqb, ne-eqb, eqb-true, leb-true, leb-false}
 use Rattle.text.specs.Bytes.{bytes, begins}
 use Rattle.text.specs.Classes.{isBetween}
 use Rattle.text.proofs.Laws.{and-left, and-right}
-use Rattle.lines.specs.Lines.{linesOf, lineAt}
+use Rattle.lines.specs.Lines.{linesOf, lineAt, startBehind, endOf}
+use Rattle.lines.proofs.Laws.{begins as begun}
 use Rattle.layout.specs.Layout.{Taken, taken, stepOf, runOf, marked}
 use Rattle.layout.specs.declared.Place.{Place}
 use Rattle.sheets.specs.Sheets.{Entry, edge, held, come, has, takenIn as takenOf}
@@ -36,11 +37,11 @@ use Rattle.demands.specs.Lawful.{saidIn, Lawful}
 use Rattle.demands.proofs.Holds.{valued-at, not-header, no-length}
 use Rattle.demands.proofs.Accepting.{body-taken}
 use Rattle.demands.proofs.Demands.{demands}
-use Rattle.field.specs.Field.{noLine, takenFor, asked, lineFor, frontOf, fieldOf, startBehind, endOf, placeOf}
+use Rattle.field.specs.Field.{noLine, takenFor, asked, lineFor, frontOf, fieldOf, placeOf}
 use Rattle.field.specs.Finding.{nowhere, IsPart, IsRead, IsToldBehind, NoneRefused, NoneUnnamed, NoneAbsent, Finding}
 use Rattle.field.specs.declared.Stretch.{Stretch}
 use Rattle.field.proofs.Values.{told, told-begins, behind-front}
-use Rattle.field.proofs.Steps.{begins as begun, next, place-is, field-is, place-none, field-none, not-asked, refused-none, unnamed-none, asked-of, is-named, accepted, line-is, top, none-seen, body-run}
+use Rattle.field.proofs.Steps.{next, place-is, field-is, place-none, field-none, not-asked, refused-none, unnamed-none, asked-of, is-named, accepted, line-is, top, none-seen, body-run}
 
 -- ---- a field is a part of its message
 

@@ -13,9 +13,9 @@ use lib.Seq.{drop-nil, drop-drop}
 use borrow.Author.Tests.{eq-eqb, ne-eqb, eqb-true, le-leb, lt-leb}
 use Rattle.text.specs.Classes.{isBetween}
 use Rattle.text.proofs.Laws.{and-left, and-right}
-use Rattle.lines.specs.Lines.{linesOf, lineAt}
+use Rattle.lines.specs.Lines.{linesOf, lineAt, startBehind, endOf}
 use Rattle.lines.specs.declared.Line.{Line}
-use Rattle.lines.proofs.Laws.{Located, located, lines-next, lines-behind}
+use Rattle.lines.proofs.Laws.{Located, located, lines-behind, begins}
 use Rattle.layout.specs.Layout.{Taken, Run, refusedAt, taken, stepOf, runOf, behind, withTaken, marked, layoutOf}
 use Rattle.layout.specs.declared.Place.{Place}
 use Rattle.layout.specs.declared.Step.{Step}
@@ -29,28 +29,9 @@ use Rattle.mt515.specs.declared.Reading.{Reading}
 use Rattle.demands.specs.Lawful.{Valued}
 use Rattle.demands.proofs.Accepting.{body-taken}
 use Rattle.demands.proofs.Demands.{demands}
-use Rattle.field.specs.Field.{noLine, takenFor, asked, lineFor, frontOf, fieldOf, startBehind, endOf, placeOf}
+use Rattle.field.specs.Field.{noLine, takenFor, asked, lineFor, frontOf, fieldOf, placeOf}
 use Rattle.field.specs.declared.Stretch.{Stretch}
 use Rattle.field.proofs.Values.{named, behind-front}
-
--- ---- where lines begin
-
-pub record Begins (m : List ℕ) (n at : ℕ) : Type 0 where
-  pub within : at ≤ length m
-  pub rest : linesOf (drop at m) ≡ drop n (linesOf m)
-
-pub begins : (m : List ℕ) (n : ℕ) → Begins m n (startBehind m n)
-unfolding startBehind
-begins m zero = record { within = omega arith; rest = refl }
-begins m (suc n) =
-    let b = begins m n in
-    let l = lines-next m (startBehind m n) _ refl (b .within) in
-    record { within = l .0; rest = l .1 ∙ ap (drop 1) (b .rest) ∙ drop-drop 1 n (linesOf m) ∙ ap (λ (k : ℕ). drop k (linesOf m)) (add-one n) }
-
-pub four-lines : (m : List ℕ) (a b c d : Line) → a ≡ lineAt m 0 → b ≡ lineAt m (a .next) → c ≡ lineAt m (b .next) → d ≡ lineAt m (c .next)
-    → d .next ≡ startBehind m 4
-unfolding startBehind
-four-lines m a b c d ea eb ec ed = rw (ed, ec, eb, ea)
 
 -- ---- a line further, where all lines are taken
 

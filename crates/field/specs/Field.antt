@@ -1,13 +1,13 @@
 -- Document 01, "One field": for a slot named by the caller the answer is that stretch of the caller's own message, the value after
 -- the fixed text (for 70E, what follows `GSCC/`). A refused message, a number that names no slot, or a slot it does not have gives
 -- the empty stretch at the message's start. Slots are numbered as in table's `specs/Table`: 21 have a value.
-use Prim.Native.Nat.{ℕ, zero, suc, _+_, _-_}
+use Prim.Native.Nat.{ℕ, _+_, _-_}
 use mathlib.Core.Bool.{Bool, _&&_, cond}
 use mathlib.Core.List.{List, [], _∷_}
 use lib.Dec.{eqb}
 use lib.ListN.{length, drop}
 use Rattle.text.specs.Classes.{isBetween}
-use Rattle.lines.specs.Lines.{lineAt}
+use Rattle.lines.specs.Lines.{endOf}
 use Rattle.layout.specs.Layout.{Taken}
 use Rattle.table.specs.Table.{fixedOf}
 use Rattle.mt515.specs.Body.{bodyOf, takenIn}
@@ -42,16 +42,6 @@ unfoldable pub fieldOf : List ℕ → ℕ → List ℕ
 fieldOf m slot = drop (frontOf slot) (lineFor m slot .value)
 
 -- ---- and its place
-
--- where the line behind so many lines of a message begins
-unfoldable pub startBehind : List ℕ → ℕ → ℕ
-startBehind m zero = 0
-startBehind m (suc n) = lineAt m (startBehind m n) .next
-
--- where the text of a line ends, and 0 for no line
-unfoldable pub endOf : List ℕ → ℕ → ℕ
-endOf m zero = 0
-endOf m (suc n) = lineAt m (startBehind m n) .end
 
 -- a value is the end of its line
 unfoldable pub placeOf : List ℕ → ℕ → Stretch

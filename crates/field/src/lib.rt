@@ -5,8 +5,8 @@ use layout::Place;
 ghost use mathlib.Core.Path.{_≡_};
 ghost use mathlib.Core.Bool.{true};
 ghost use Prim.Native.Nat.{_+_, _-_, _≤_, _<_, _^_};
-ghost use lib.ListN.{set};
-ghost use Rattle.field.specs.Field.{asked, frontOf, fieldOf, startBehind, placeOf};
+ghost use Rattle.lines.specs.Lines.{startBehind};
+ghost use Rattle.field.specs.Field.{asked, frontOf, fieldOf, placeOf};
 
 // What the caller gets back of a slot: the read's number, and where the value stands in the message.
 pub struct Stretch {
@@ -23,26 +23,6 @@ fn nowhere(number: u64) -> Stretch
         number,
         offset: 0,
         count: 0,
-    }
-}
-
-// Where the line behind the four of the header begins.
-fn behind_header(message: &[u8]) -> usize
-    ensures { λ r. ⌜ r ≡ startBehind (now (message .entry)) 4 ⌝ }
-{
-    let one = lines::line_at(message, 0);
-    let two = lines::line_at(message, one.next);
-    let three = lines::line_at(message, two.next);
-    let four = lines::line_at(message, three.next);
-    four.next
-}
-
-// A slot is seen from then on.
-fn mark(seen: &mut [u8], slot: usize)
-    ensures { λ _. ⌜ now (seen .exit) ≡ set (now (seen .entry)) slot 1 ⌝ }
-{
-    if slot < seen.len() {
-        seen[slot] = 1;
     }
 }
 
@@ -91,7 +71,7 @@ fn search(message: &[u8], from: usize, wanted: usize) -> Stretch
             if slot == wanted {
                 break 'blocks value_on(slot, at + step.width, stop);
             }
-            mark(&mut seen, slot);
+            layout::mark(&mut seen, slot);
             here = step.place;
             at = line.next;
             if slot == 0 {
@@ -115,7 +95,7 @@ pub fn place(message: &[u8], slot: usize) -> Stretch
     if 21 < slot {
         return nowhere(0);
     }
-    search(message, behind_header(message), slot)
+    search(message, lines::behind(message, 4), slot)
 }
 
 // The value of a slot, as a part of the message; the empty part at its start where it has none.

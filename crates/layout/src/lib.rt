@@ -4,7 +4,7 @@
 ghost use mathlib.Core.Path.{_≡_};
 ghost use Prim.Native.Nat.{_*_, _+_, _/_, _^_, _≤_, _<_};
 ghost use lib.Dec.{eqb};
-ghost use lib.ListN.{length, drop};
+ghost use lib.ListN.{length, drop, set};
 ghost use mathlib.Core.Bool.{true, cond, _&&_, _||_};
 ghost use mathlib.Core.List.{[]};
 ghost use Rattle.text.specs.Bytes.{begins, same};
@@ -75,6 +75,15 @@ fn is_seen(seen: &[u8], slot: usize) -> bool
         seen[slot] == 1
     } else {
         false
+    }
+}
+
+// A slot is seen from then on.
+pub fn mark(seen: &mut [u8], slot: usize)
+    ensures { λ _. ⌜ now (seen .exit) ≡ set (now (seen .entry)) slot 1 ⌝ }
+{
+    if slot < seen.len() {
+        seen[slot] = 1;
     }
 }
 

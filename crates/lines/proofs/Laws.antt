@@ -1,7 +1,7 @@
 -- What callers cite: how the lines of a message go on from a place, how passes come one after the other, and what is known of
 -- a message that has passed.
 -- Assumes nothing.
-use Prim.Native.Nat.{ℕ, suc, _+_, _-_, _≤_, _<_, min}
+use Prim.Native.Nat.{ℕ, zero, suc, _+_, _-_, _≤_, _<_, min}
 use mathlib.Core.Path.{_≡_, refl, sym, ap, _∙_}
 use mathlib.Core.Bool.{Bool, true, false, _&&_, not, cond}
 use mathlib.Core.List.{List, [], _∷_, _++_}
@@ -15,7 +15,7 @@ use borrow.Author.Tests.{ltb-true, ltb-false, leb-true, leb-false, eq-eqb, ne-eq
 use Rattle.text.specs.Bytes.{bytes, same, before}
 use Rattle.text.proofs.Laws.{and-left, and-right, before-front, before-length, same-eq}
 use Rattle.lines.specs.Verdicts.{refused, pass, then}
-use Rattle.lines.specs.Lines.{inFront, cutLines, bare, linesOf, ended, sizePass, bytePass, endPass, linesPass, lineAt}
+use Rattle.lines.specs.Lines.{inFront, cutLines, bare, linesOf, ended, sizePass, bytePass, endPass, linesPass, lineAt, startBehind}
 use Rattle.lines.specs.declared.Verdict.{Verdict}
 use Rattle.lines.specs.declared.Line.{Line}
 
@@ -142,6 +142,20 @@ lines-next m at r e h = on (ltb at (length m)) refl
         let b : length m ≤ at = ltb-false _ _ t in
         let n : r .next ≡ at = ap (λ (x : Line). x .next) e ∙ next-behind m at b in
         (rw n h, rw (n, lines-behind m at b))
+
+-- ---- where the line behind so many begins: within the message, with the other lines behind it
+
+pub record Begins (m : List ℕ) (n at : ℕ) : Type 0 where
+  pub within : at ≤ length m
+  pub rest : linesOf (drop at m) ≡ drop n (linesOf m)
+
+pub begins : (m : List ℕ) (n : ℕ) → Begins m n (startBehind m n)
+unfolding startBehind
+begins m zero = record { within = omega arith; rest = refl }
+begins m (suc n) =
+    let b = begins m n in
+    let l = lines-next m (startBehind m n) _ refl (b .within) in
+    record { within = l .0; rest = l .1 ∙ ap (drop 1) (b .rest) ∙ drop-drop 1 n (linesOf m) ∙ ap (λ (k : ℕ). drop k (linesOf m)) (add-one n) }
 
 -- ---- a message that has passed
 

@@ -1,6 +1,6 @@
 -- Document 01, "Lines and blocks", its first part: a line ends at LF; a CR just before that LF belongs to the ending. The last
 -- line of a message is `-`, and it too has its ending. And the numbers 1, 2 and 3.
-use Prim.Native.Nat.{ℕ, suc, _+_, min}
+use Prim.Native.Nat.{ℕ, zero, suc, _+_, min}
 use mathlib.Core.Bool.{Bool, false, _&&_, _||_, cond}
 use mathlib.Core.List.{List, [], _∷_, map}
 use lib.Dec.{leb, eqb}
@@ -73,3 +73,13 @@ unfoldable pub lineAt : List ℕ → ℕ → Line
 lineAt m at =
     let raw = before 10 (drop at m) in
     record { end = at + length (bare raw); next = at + min (length raw + 1) (length (drop at m)) }
+
+-- where the line behind so many lines of a message begins
+unfoldable pub startBehind : List ℕ → ℕ → ℕ
+startBehind m zero = 0
+startBehind m (suc n) = lineAt m (startBehind m n) .next
+
+-- where the text of a line ends, counted from 1; and 0 for no line
+unfoldable pub endOf : List ℕ → ℕ → ℕ
+endOf m zero = 0
+endOf m (suc n) = lineAt m (startBehind m n) .end

@@ -9,7 +9,7 @@ ghost use lib.ListN.{length, getD};
 ghost use Rattle.text.specs.Bytes.{bytes, begins, same};
 ghost use Rattle.text.specs.Classes.{isBetween};
 ghost use Rattle.lines.specs.Verdicts.{refused, pass, then};
-ghost use Rattle.lines.specs.Lines.{bare, bytePass, endPass, linesPass, linesOf, ended, lineAt};
+ghost use Rattle.lines.specs.Lines.{bare, bytePass, endPass, linesPass, linesOf, ended, lineAt, startBehind};
 
 // What the desk gets back of a pass: a number of document 01, 0 for nothing wrong, and the line.
 pub struct Verdict {
@@ -61,6 +61,19 @@ pub fn line_at(message: &[u8], at: usize) -> Line
         };
     }
     Line { end, next: at + n }
+}
+
+// Where the line behind so many lines of a message begins; the message's end where it has no more.
+pub fn behind(message: &[u8], count: usize) -> usize
+    ensures { λ r. ⌜ r ≡ startBehind (now (message .entry)) count ⌝ }
+{
+    let mut at = 0;
+    let mut i = 0;
+    while i < count {
+        at = line_at(message, at).next;
+        i += 1;
+    }
+    at
 }
 
 // How many bytes from 20 to 7E hex a part begins with.

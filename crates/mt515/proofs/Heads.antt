@@ -16,7 +16,7 @@ use Rattle.lines.specs.Lines.{bare, linesOf, lineAt}
 use Rattle.lines.specs.declared.Line.{Line}
 use Rattle.lines.proofs.Laws.{Located, located, lines-next, lines-none}
 use Rattle.forms.specs.Forms.{isCode}
-use Rattle.trade.specs.Stretches.{between}
+use Rattle.stretches.specs.Stretches.{between}
 use Rattle.mt515.specs.Body.{lineOf, headerVerdict, headerPass}
 
 -- a stretch within the message

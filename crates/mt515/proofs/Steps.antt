@@ -20,7 +20,7 @@ use Rattle.layout.specs.Layout.{Taken, Run, refusedAt, taken, stepOf, runOf, be
 use Rattle.layout.specs.declared.Place.{Place}
 use Rattle.layout.specs.declared.Step.{Step}
 use Rattle.layout.proofs.Laws.{run-next, takes-within}
-use Rattle.trade.specs.Stretches.{between, stretchOf}
+use Rattle.stretches.specs.Stretches.{between, stretchOf}
 use Rattle.table.specs.Table.{table, fixedOf}
 use Rattle.table.specs.Values.{numberOf, valueVerdict, valuesPass, valueFrom}
 use Rattle.mt515.specs.Body.{lineOf, bodyOf, bodyPass, takenIn, headerValue, valueIn}

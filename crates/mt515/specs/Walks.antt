@@ -7,7 +7,7 @@ use Rattle.lines.specs.Lines.{linesOf}
 use Rattle.layout.specs.Rows.{rowsOf}
 use Rattle.table.specs.Table.{table, slots}
 use Rattle.table.proofs.Tables.{places}
-use Rattle.trade.specs.Stretches.{between, stretchOf}
+use Rattle.stretches.specs.Stretches.{between, stretchOf}
 use Rattle.mt515.specs.Body.{lineOf, headerPass, bodyOf, bodyPass, takenIn, valueIn}
 use Rattle.mt515.specs.declared.header.Header.{Header}
 use Rattle.mt515.specs.declared.walk.Body.{Body}

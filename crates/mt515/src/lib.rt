@@ -8,7 +8,7 @@ use lines::Verdict;
 use trade::Trade;
 ghost use mathlib.Core.Path.{_≡_};
 ghost use Rattle.trade.specs.Records.{blankTrade};
-ghost use Rattle.trade.specs.Stretches.{stretchOf};
+ghost use Rattle.stretches.specs.Stretches.{stretchOf};
 ghost use Rattle.mt515.specs.Reading.{judged, readOf};
 
 // What the desk gets back of a message: 0 and the record, or a number and a line with the blank record beside them.
@@ -68,7 +68,7 @@ fn judge<'a, 'b>(message: &'a [u8], starts: &'b [usize], ends: &'b [usize]) -> R
     ensures { λ r. ⌜ r ≡ judged (stretchOf (now (message .entry)) (now (starts .entry)) (now (ends .entry))) ⌝ }
 {
     let trade = trade::gather(message, starts, ends);
-    let kinds = kinds::kinds_pass(trade::stretch(message, starts, ends, 2), trade);
+    let kinds = kinds::kinds_pass(stretches::stretch(message, starts, ends, 2), trade);
     if kinds.number != 0 {
         return refuse(kinds);
     }

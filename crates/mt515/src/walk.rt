@@ -6,10 +6,10 @@ ghost use mathlib.Core.Path.{_≡_};
 ghost use mathlib.Core.Bool.{cond};
 ghost use Prim.Native.Nat.{_≤_};
 ghost use lib.Dec.{eqb};
-ghost use lib.ListN.{length, drop, set};
+ghost use lib.ListN.{length, drop};
 ghost use Rattle.lines.specs.Lines.{linesOf};
 ghost use Rattle.lines.specs.Verdicts.{then};
-ghost use Rattle.trade.specs.Stretches.{between};
+ghost use Rattle.stretches.specs.Stretches.{between};
 ghost use Rattle.layout.specs.Layout.{stepOf};
 ghost use Rattle.table.specs.Table.{table, fixedOf};
 ghost use Rattle.table.specs.Values.{numberOf, valueVerdict};
@@ -21,24 +21,6 @@ pub(crate) struct Body {
     pub verdict: Verdict,
     pub starts: [usize; 32],
     pub ends: [usize; 32],
-}
-
-// Keeps a place for a slot.
-fn keep(places: &mut [usize], slot: usize, place: usize)
-    ensures { λ _. ⌜ now (places .exit) ≡ set (now (places .entry)) slot place ⌝ }
-{
-    if slot < places.len() {
-        places[slot] = place;
-    }
-}
-
-// A slot is seen from then on.
-fn mark(seen: &mut [u8], slot: usize)
-    ensures { λ _. ⌜ now (seen .exit) ≡ set (now (seen .entry)) slot 1 ⌝ }
-{
-    if slot < seen.len() {
-        seen[slot] = 1;
-    }
 }
 
 // What a line does at a place of the table.
@@ -134,9 +116,9 @@ pub(crate) fn walk(
         let slot = step.slot;
         let value = at + step.width;
         fault = first_fault(slots, fault, slot, &message[value..stop], n);
-        keep(&mut starts, slot, value + fixed_length(slots, slot));
-        keep(&mut ends, slot, stop);
-        mark(&mut seen, slot);
+        stretches::keep(&mut starts, slot, value + fixed_length(slots, slot));
+        stretches::keep(&mut ends, slot, stop);
+        layout::mark(&mut seen, slot);
         here = step.place;
         at = line.next;
         n += 1;

@@ -1,4 +1,3 @@
 pub mod Narrative
-pub mod Stretches
 pub mod Records
 pub mod Cases

@@ -1,6 +1,6 @@
 // A trade as it is held: the record, and how it is had from the values of a message's slots.
 //
-// What is right stands in specs/Narrative, specs/Stretches and specs/Records.
+// What is right stands in specs/Narrative and specs/Records.
 pub mod narrative;
 mod words;
 
@@ -15,11 +15,10 @@ use calendar::MomentRead;
 use calendar::Time;
 use text::Text;
 ghost use mathlib.Core.Path.{_≡_};
-ghost use lib.ListN.{getD};
 ghost use Rattle.text.specs.Texts.{textOf};
 ghost use Rattle.amount.specs.Amounts.{amountRead};
 ghost use Rattle.calendar.specs.Dates.{dateRead, momentRead};
-ghost use Rattle.trade.specs.Stretches.{between, stretchOf};
+ghost use Rattle.stretches.specs.Stretches.{stretchOf};
 ghost use Rattle.trade.specs.Records.{amountOr0, dateOr0, momentOr0, partyOf, tradeOf, blankTrade};
 
 // The kinds of an MT515.
@@ -118,41 +117,10 @@ pub fn blank() -> Trade
     }
 }
 
-// From one place to another of a text; nothing where they do not stand in it in that order.
-pub fn part(message: &[u8], from: usize, to: usize) -> &[u8]
-    ensures { λ r. ⌜ now r ≡ between (now (message .entry)) from to ⌝ }
-{
-    if to < from {
-        return &message[..0];
-    }
-    if message.len() < to {
-        return &message[..0];
-    }
-    &message[from..to]
-}
-
-fn at(places: &[usize], slot: usize) -> usize
-    ensures { λ r. ⌜ r ≡ getD (now (places .entry)) slot 0 ⌝ }
-{
-    if slot < places.len() { places[slot] } else { 0 }
-}
-
-// The value of a slot as a stretch of the message.
-pub fn stretch<'a, 'b>(
-    message: &'a [u8],
-    starts: &'b [usize],
-    ends: &'b [usize],
-    slot: usize,
-) -> &'a [u8]
-    ensures { λ r. ⌜ now r ≡ stretchOf (now (message .entry)) (now (starts .entry)) (now (ends .entry)) slot ⌝ }
-{
-    part(message, at(starts, slot), at(ends, slot))
-}
-
 fn text_at<'a, 'b>(message: &'a [u8], starts: &'b [usize], ends: &'b [usize], slot: usize) -> Text
     ensures { λ r. ⌜ r ≡ textOf (stretchOf (now (message .entry)) (now (starts .entry)) (now (ends .entry)) slot) ⌝ }
 {
-    Text::of(stretch(message, starts, ends, slot))
+    Text::of(stretches::stretch(message, starts, ends, slot))
 }
 
 fn moment_at<'a, 'b>(
@@ -163,7 +131,7 @@ fn moment_at<'a, 'b>(
 ) -> Moment
     ensures { λ r. ⌜ r ≡ momentOr0 (momentRead (stretchOf (now (message .entry)) (now (starts .entry)) (now (ends .entry)) slot)) ⌝ }
 {
-    match Moment::read(stretch(message, starts, ends, slot)) {
+    match Moment::read(stretches::stretch(message, starts, ends, slot)) {
         MomentRead::Good(moment) => moment,
         MomentRead::Wrong => Moment {
             date: Date(0),
@@ -175,7 +143,7 @@ fn moment_at<'a, 'b>(
 fn date_at<'a, 'b>(message: &'a [u8], starts: &'b [usize], ends: &'b [usize], slot: usize) -> Date
     ensures { λ r. ⌜ r ≡ dateOr0 (dateRead (stretchOf (now (message .entry)) (now (starts .entry)) (now (ends .entry)) slot)) ⌝ }
 {
-    match Date::read(stretch(message, starts, ends, slot)) {
+    match Date::read(stretches::stretch(message, starts, ends, slot)) {
         DateRead::Good(date) => date,
         DateRead::Wrong => Date(0),
     }
@@ -189,7 +157,7 @@ fn amount_at<'a, 'b>(
 ) -> Amount
     ensures { λ r. ⌜ r ≡ amountOr0 (amountRead (stretchOf (now (message .entry)) (now (starts .entry)) (now (ends .entry)) slot)) ⌝ }
 {
-    match Amount::read(stretch(message, starts, ends, slot)) {
+    match Amount::read(stretches::stretch(message, starts, ends, slot)) {
         AmountRead::Good(amount) => amount,
         AmountRead::Wrong => Amount::ZERO,
     }
@@ -217,7 +185,7 @@ fn party_at<'a, 'b>(
 pub fn gather<'a, 'b>(message: &'a [u8], starts: &'b [usize], ends: &'b [usize]) -> Trade
     ensures { λ r. ⌜ r ≡ tradeOf (stretchOf (now (message .entry)) (now (starts .entry)) (now (ends .entry))) ⌝ }
 {
-    let narrative = stretch(message, starts, ends, 21);
+    let narrative = stretches::stretch(message, starts, ends, 21);
     Trade {
         password: text_at(message, starts, ends, 28),
         sender: text_at(message, starts, ends, 29),
@@ -229,8 +197,8 @@ pub fn gather<'a, 'b>(message: &'a [u8], starts: &'b [usize], ends: &'b [usize])
         trad: moment_at(message, starts, ends, 7),
         sett: date_at(message, starts, ends, 8),
         price: Price::of(amount_at(message, starts, ends, 9)),
-        side: words::side_in(stretch(message, starts, ends, 10)),
-        kind: words::kind_in(stretch(message, starts, ends, 11)),
+        side: words::side_in(stretches::stretch(message, starts, ends, 10)),
+        kind: words::kind_in(stretches::stretch(message, starts, ends, 11)),
         buyer: party_at(message, starts, ends, 12, 13, 14),
         seller: party_at(message, starts, ends, 15, 16, 17),
         par: Par::of(amount_at(message, starts, ends, 18)),

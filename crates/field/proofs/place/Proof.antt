@@ -29,13 +29,13 @@ returns-3 c =
     let e = c .before .before .before in
     unnamed _ _ _ (e .before .before .read .ensures) (e .if1 .left) (above-named _ (c .before .if3 .taken)) _ (c .nowhere3 .ensures)
 
-behind-header-requires : tie.Need-behind-header-requires
-behind-header-requires c κs = search needs
+behind-requires : tie.Need-behind-requires
+behind-requires c κs = search needs
 
 search-requires : tie.Need-search-requires
 search-requires c κs =
     let e = c .before .before .before in
-    (goes-on _ _ _ (e .before .before .read .ensures) (e .if1 .left) (is-named _ (c .before .before .if2 .left) (c .before .if3 .left)), c .behind-header .ensures)
+    (goes-on _ _ _ (e .before .before .read .ensures) (e .if1 .left) (is-named _ (c .before .before .if2 .left) (c .before .if3 .left)), c .behind .ensures)
 
 returns-4 : tie.Need-returns-4
 returns-4 c = search needs
@@ -51,6 +51,6 @@ place-spec =
     returns-2
     nowhere-requires-3
     returns-3
-    behind-header-requires
+    behind-requires
     search-requires
     returns-4)

@@ -1,9 +1,9 @@
--- `trade::stretch` meets its contract. Assumes nothing.
+-- `stretches::stretch` meets its contract. Assumes nothing.
 use mathlib.Core.Path.{_∙_}
-use Rattle.trade.specs.Stretches.{stretchOf}
+use Rattle.stretches.specs.Stretches.{stretchOf}
 use borrow.Author.Needs.{needs}
-use Rattle.trade.proofs.stretch.Statement.{statement}
-use Rattle.trade.proofs.stretch.Tie as tie
+use Rattle.stretches.proofs.stretch.Statement.{statement}
+use Rattle.stretches.proofs.stretch.Tie as tie
 
 at-requires : tie.Need-at-requires
 at-requires c κs = search needs

@@ -1,10 +1,10 @@
--- `trade::at` meets its contract. Assumes nothing.
+-- `stretches::at` meets its contract. Assumes nothing.
 use denote.Ref.{now}
 use mathlib.Core.Path.{sym}
 use lib.ListN.{List·getD-eq-default}
 use borrow.Author.Needs.{needs}
-use Rattle.trade.proofs.at.Statement.{statement}
-use Rattle.trade.proofs.at.Tie as tie
+use Rattle.stretches.proofs.at.Statement.{statement}
+use Rattle.stretches.proofs.at.Tie as tie
 
 mul-result : tie.Need-mul-result
 mul-result c = search needs

@@ -1,4 +1,4 @@
--- The values of a message's slots as stretches of its text: of each slot where its value begins and ends.
+-- The values of slots as stretches of a text: of each slot where its value begins and where it ends.
 use Prim.Native.Nat.{ℕ, _-_}
 use mathlib.Core.Bool.{_&&_, cond}
 use mathlib.Core.List.{List, []}

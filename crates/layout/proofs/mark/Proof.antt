@@ -1,9 +1,9 @@
--- `mt515::walk::mark` meets its contract. Assumes nothing.
+-- `layout::mark` meets its contract. Assumes nothing.
 use mathlib.Core.Path.{sym}
 use lib.Seq.{set-out}
 use borrow.Author.Needs.{needs}
-use Rattle.mt515.proofs.walk.mark.Statement.{statement}
-use Rattle.mt515.proofs.walk.mark.Tie as tie
+use Rattle.layout.proofs.mark.Statement.{statement}
+use Rattle.layout.proofs.mark.Tie as tie
 
 slice-write-seen : tie.Need-slice-write-seen
 slice-write-seen c = search needs

@@ -1,9 +1,9 @@
--- `trade::part` meets its contract. Assumes nothing.
+-- `stretches::part` meets its contract. Assumes nothing.
 use borrow.Author.Tests.{le-leb, lt-leb}
-use Rattle.trade.specs.Stretches.{between}
+use Rattle.stretches.specs.Stretches.{between}
 use borrow.Author.Needs.{needs}
-use Rattle.trade.proofs.part.Statement.{statement}
-use Rattle.trade.proofs.part.Tie as tie
+use Rattle.stretches.proofs.part.Statement.{statement}
+use Rattle.stretches.proofs.part.Tie as tie
 
 slice-aggregate-result : tie.Need-slice-aggregate-result
 slice-aggregate-result c = search needs

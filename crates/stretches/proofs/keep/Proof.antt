@@ -1,9 +1,9 @@
--- `mt515::walk::keep` meets its contract. Assumes nothing.
+-- `stretches::keep` meets its contract. Assumes nothing.
 use mathlib.Core.Path.{sym}
 use lib.Seq.{set-out}
 use borrow.Author.Needs.{needs}
-use Rattle.mt515.proofs.walk.keep.Statement.{statement}
-use Rattle.mt515.proofs.walk.keep.Tie as tie
+use Rattle.stretches.proofs.keep.Statement.{statement}
+use Rattle.stretches.proofs.keep.Tie as tie
 
 mul-places : tie.Need-mul-places
 mul-places c = search needs
