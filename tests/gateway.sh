@@ -10,11 +10,10 @@ bin/cc-x86 -o "$work/gateway" -std=c11 -Wall -Wextra -Werror -O2 -Iinclude tests
 bin/run-x86 "$work/gateway"
 
 # It keeps nothing between calls and takes no memory: it has no data that can change, and needs of C only what copies and fills.
-# (Another processor's nm may not know the archive.)
-if [ "$(uname -m)" = x86_64 ]; then
-    nm "$library" | awk 'NF >= 2 && $(NF-1) ~ /^[BbCDdGgSsU]$/ && $NF !~ /^mem(cpy|move|set|cmp)$/ { print "the library has", $0; bad = 1 } END { exit bad }'
-    echo 'the library has no data that can change, and calls nothing but memcpy and its like'
-fi
+nm "$library" >"$work/names"
+grep -q ' T mt515_read$' "$work/names"
+awk 'NF >= 2 && $(NF-1) ~ /^[BbCDdGgSsU]$/ && $NF !~ /^mem(cpy|move|set|cmp)$/ { print "the library has", $0; bad = 1 } END { exit bad }' "$work/names"
+echo 'the library has no data that can change, and calls nothing but memcpy and its like'
 
 # The example's number and line of each message; and its plain forms are their own plain forms.
 examples/gateway.sh examples/day.batch "$work/plain" >"$work/said"
