@@ -48,7 +48,7 @@ fn lasting(part: &[u8]) -> usize
 }
 
 // How many noughts stand in front.
-fn leading(part: &[u8]) -> usize
+pub fn leading(part: &[u8]) -> usize
     ensures { λ r. ⌜ r ≡ noughts (now (part .entry)) ⌝ }
 {
     let mut i = 0;

@@ -10,7 +10,6 @@ ghost use Prim.Native.Nat.{_≤_};
 ghost use lib.ListN.{length};
 ghost use Rattle.text.specs.Copy.{placed, after};
 ghost use Rattle.text.specs.Texts.{contents};
-ghost use Rattle.amount.specs.Amounts.{noughts};
 ghost use Rattle.values.specs.Values.{kindWord};
 ghost use Rattle.message.specs.Walks.{overRun, behindRun};
 ghost use Rattle.listing.specs.Rows.{spaced, heading, decimal, shown, fieldsOf, rowOf};
@@ -27,27 +26,13 @@ struct Row {
     seller: Text,
 }
 
-// How many noughts stand in front.
-fn leading(part: &[u8]) -> usize
-    ensures { λ r. ⌜ r ≡ noughts (now (part .entry)) ⌝ }
-{
-    let mut i = 0;
-    while i < part.len() {
-        if part[i] != b'0' {
-            return i;
-        }
-        i += 1;
-    }
-    i
-}
-
 // A number without needless noughts in front; zero keeps one.
 fn decimal(number: u64) -> Text
     ensures { λ r. ⌜ contents r ≡ decimal number ⌝ }
 {
     let mut all = [b'0'; 20];
     digits::put_digits(&mut all, 0, 20, number);
-    let from = leading(&all[..19]);
+    let from = amount::leading(&all[..19]);
     Text::of(&all[from..])
 }
 
