@@ -15,7 +15,6 @@ use Rattle.text.specs.Bytes.{bytes, begins, same}
 use Rattle.text.specs.Classes.{isBetween}
 use Rattle.text.proofs.Laws.{and-left, and-right, begins-is, same-eq}
 use Rattle.forms.specs.Forms.{unless, valueNumber, isCode}
-use Rattle.trade.specs.Narrative.{isNarrative}
 use Rattle.lines.specs.Verdicts.{refused, pass}
 use Rattle.lines.specs.declared.Verdict.{Verdict}
 use Rattle.trade.specs.Records.{kindIn}
@@ -51,18 +50,7 @@ ten-not false x h = let z : ⊥ = omega arith in absurd z
 
 pub number-begins : (slot : ℕ) (v : List ℕ) → numberOf slot v ≡ 0 → begins (fixedOf slot) v ≡ true
 unfolding numberOf valueNumber
-number-begins slot v h = on (eqb slot 21) refl h
-  where
-    on : (b : Bool) → eqb slot 21 ≡ b
-        → cond (b && begins (fixedOf 21) v) (unless (isNarrative (drop (length (fixedOf 21)) v))) (valueNumber (slotOf slot) v) ≡ 0
-        → begins (fixedOf slot) v ≡ true
-    on true e q = rw (eqb-true slot 21 e) (told (begins (fixedOf 21) v) refl (rw (eqb-true slot 21 e) at q))
-      where
-        told : (b : Bool) → begins (fixedOf 21) v ≡ b
-            → cond b (unless (isNarrative (drop (length (fixedOf 21)) v))) (valueNumber (slotOf 21) v) ≡ 0 → begins (fixedOf 21) v ≡ true
-        told true d r = d
-        told false d r = ten-not (begins (fixedOf 21) v) _ r
-    on false e q = ten-not (begins (fixedOf slot) v) _ q
+number-begins slot v h = ten-not (begins (fixedOf slot) v) _ h
 
 pub no-length : (v : List ℕ) → eqb (length v) 0 ≡ true → v ≡ []
 no-length [] e = refl

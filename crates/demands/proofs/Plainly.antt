@@ -123,11 +123,11 @@ module _ (m : List ℕ) (es : List Entry) (l : Sheet tree es) (h : Valued es) (h
 
   slot-30 : Slot 30
   unfolding valueOf values tidied mustSlots firstSlots tree general pool details has slotOf slots formNumber
-  slot-30 = fixed-slot 30 (omega arith) refl (λ v. refl) (λ v. number-form 30 v refl) refl
+  slot-30 = fixed-slot 30 (omega arith) refl (λ v. refl) (λ v. number-form 30 v) refl
 
   slot-31 : Slot 31
   unfolding valueOf values tidied mustSlots firstSlots tree general pool details has slotOf slots formNumber
-  slot-31 = fixed-slot 31 (omega arith) refl (λ v. refl) (λ v. number-form 31 v refl) refl
+  slot-31 = fixed-slot 31 (omega arith) refl (λ v. refl) (λ v. number-form 31 v) refl
 
   -- ---- the whole table
 

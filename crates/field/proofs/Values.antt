@@ -15,7 +15,7 @@ use Rattle.digits.specs.Numerals as Numerals
 use Rattle.amount.specs.Amounts.{amountRead, isAmount, whole}
 use Rattle.calendar.specs.Dates.{dateRead, dateFrom, momentRead, momentFrom}
 use Rattle.forms.specs.Forms.{valueNumber, formNumber, unless, isCode, isWord, wordAt}
-use Rattle.trade.specs.Narrative.{isNarrative}
+use Rattle.forms.specs.Narrative.{isNarrative}
 use Rattle.table.specs.Table.{slots, slotOf, fixedOf}
 use Rattle.table.specs.Values.{numberOf}
 use Rattle.demands.proofs.Holds.{number-begins, allBelow, all-at}
@@ -34,7 +34,7 @@ ten true h = refl
 ten false h = let z : ⊥ = omega arith in absurd z
 
 pub told : (v : List ℕ) → numberOf 21 v ≡ 0 → isNarrative (drop (length (fixedOf 21)) v) ≡ true
-unfolding numberOf
+unfolding numberOf valueNumber slotOf slots formNumber
 told v h = ten _ (rw (number-begins 21 v h) at h)
 
 pub told-begins : (v : List ℕ) → isNarrative v ≡ true → begins (bytes "/TDSV") v ≡ true

@@ -1,20 +1,21 @@
--- The mathematics of the crate's functions, over plain lists and numbers: each turn of the search for a word, and the parts of
--- a slot's bytes.
+-- The mathematics of the crate's functions, over plain lists and numbers: each turn of the search for a word, the parts of a
+-- narrative, and the parts of a slot's bytes.
 -- Assumes nothing.
 use Prim.Native.Nat.{ℕ, zero, suc, _+_, _-_, _*_, _/_, _%_, _≤_, _<_}
 use mathlib.Core.Path.{_≡_, refl, sym, ap, _∙_}
 use mathlib.Core.Bool.{Bool, true, false, cond}
 use mathlib.Core.List.{List, [], _∷_}
-use native.Mathlib.Nat.{add-zero}
+use native.Mathlib.Nat.{add-zero, le-of-lt}
 use native.Mathlib.Numerals.{add-one}
 use native.Mathlib.Omega.{arith}
 use lib.Dec.{leb, ltb, eqb}
 use lib.ListN.{length, take, drop, getD, length-take, length-drop, drop-of-length-le, List·getD-eq-default}
-use lib.Seq.{drop-drop, take-take, getD-drop, getD-take}
-use borrow.Author.Tests.{le-leb, lt-leb}
+use lib.Seq.{getD-drop, take-all}
+use borrow.Author.Tests.{le-leb, lt-leb, le-ltb, lt-ltb}
 use Rattle.text.specs.Bytes.{begins, same, parts}
 use Rattle.text.proofs.Laws.{parts-from, length-parts, rest-of}
-use Rattle.forms.specs.Forms.{Form, Slot, nothing, codes, words, amount, date, moment, other, wordAt, isWord, unless, formNumber, valueNumber}
+use Rattle.forms.specs.Forms.{Form, Slot, nothing, codes, words, amount, date, moment, narrative, other, wordAt, isWord, unless, formNumber, valueNumber}
+use Rattle.forms.specs.Narrative.{services, serviceIn, periodIn}
 use Rattle.forms.specs.Slots.{wordsOf, formOf, slotAt}
 
 -- ---- the search for a word
@@ -42,6 +43,36 @@ module _ (t v : List ℕ) (i : ℕ) (inv : wordAt (wordsOf t) v ≡ i + wordAt (
       let l : length (parts 4 (length t / 4) t) ≤ i = rw length-parts h in
       sym (inv ∙ rw (drop-of-length-le (parts 4 (length t / 4) t) l) (add-zero i))
 
+-- ---- the parts of a narrative
+
+pub none-left : (k : ℕ) (s : List ℕ) → length s < k → [] ≡ drop k s
+none-left k s h = sym (drop-of-length-le s (le-of-lt h))
+
+-- a word that is cut short by the end of the value is all that is left
+pub short-word : (v w : List ℕ) → w ≡ drop 5 v → length w < 4 → w ≡ serviceIn v
+unfolding serviceIn
+short-word v w e h = sym (ap (take 4) (sym e) ∙ take-all 4 w (omega arith))
+
+pub whole-word : (v w : List ℕ) → w ≡ drop 5 v → take 4 w ≡ serviceIn v
+unfolding serviceIn
+whole-word v w e = rw e
+
+pub period-at : (v : List ℕ) → getD v 14 0 ≡ periodIn v
+unfolding periodIn
+period-at v = rw getD-drop
+
+pub no-period : (v : List ℕ) → length v < 15 → 0 ≡ periodIn v
+no-period v h = sym (List·getD-eq-default v 0 (omega arith)) ∙ period-at v
+
+module _ (v : List ℕ) (k : ℕ) (e : k ≡ wordAt services (serviceIn v)) where
+  pub service-none : 3 ≤ k → isWord services (serviceIn v) ≡ false
+  unfolding isWord
+  service-none h = rw (← e) (le-ltb k 3 h)
+
+  pub service-one : k < 3 → isWord services (serviceIn v) ≡ true
+  unfolding isWord
+  service-one h = rw (← e) (lt-ltb k 3 h)
+
 -- ---- the forms by their numbers
 
 -- a value is a word where its place is below their number; the code's part ends at its start and the words' bytes more
@@ -54,12 +85,18 @@ words-number t v n m k l e h =
     let q : length (take (n % 5 * 4) t) / 4 ≡ n % 5 = omega arith in
     rw (h, w, e, length-parts, q)
 
-pub past-five : (k : ℕ) → (k ≡ 0 → ⊥) → (k ≡ 1 → ⊥) → (k ≡ 2 → ⊥) → (k ≡ 3 → ⊥) → (k ≡ 4 → ⊥) → (k ≡ 5 → ⊥) → 6 ≤ k
-past-five k a b c d e f = omega arith
+past-two : (k : ℕ) → (k ≡ 0 → ⊥) → (k ≡ 1 → ⊥) → (k ≡ 2 → ⊥) → 3 ≤ k
+past-two k a b c = omega arith
 
-pub no-form : (kind least most : ℕ) (t v : List ℕ) → 6 ≤ kind → 0 ≡ formNumber (formOf kind least most t) v
+from-three : (k : ℕ) → 3 ≤ k → (k ≡ 3 → ⊥) → (k ≡ 4 → ⊥) → (k ≡ 5 → ⊥) → (k ≡ 6 → ⊥) → 7 ≤ k
+from-three k h d e f g = omega arith
+
+pub past-six : (k : ℕ) → (k ≡ 0 → ⊥) → (k ≡ 1 → ⊥) → (k ≡ 2 → ⊥) → (k ≡ 3 → ⊥) → (k ≡ 4 → ⊥) → (k ≡ 5 → ⊥) → (k ≡ 6 → ⊥) → 7 ≤ k
+past-six k a b c = from-three k (past-two k a b c)
+
+pub no-form : (kind least most : ℕ) (t v : List ℕ) → 7 ≤ kind → 0 ≡ formNumber (formOf kind least most t) v
 unfolding formNumber formOf
-no-form kind least most t v h = rw (List·getD-eq-default (nothing ∷ codes least most ∷ words (wordsOf (take (most % 5 * 4) t)) ∷ amount ∷ date ∷ moment ∷ []) other h)
+no-form kind least most t v h = rw (List·getD-eq-default (nothing ∷ codes least most ∷ words (wordsOf (take (most % 5 * 4) t)) ∷ amount ∷ date ∷ moment ∷ narrative ∷ []) other h)
 
 -- ---- the bytes of a slot
 

@@ -2,21 +2,22 @@
 --   10  the fixed text is wrong; in values other than 11's and 12's, width, characters or code word
 --   11  an amount is wrong in any way
 --   12  a date or time is wrong in any way
-use Prim.Native.Nat.{ℕ, suc}
-use mathlib.Core.Bool.{Bool, true, false, _&&_, _||_, cond}
-use mathlib.Core.List.{List, [], _∷_}
-use lib.Dec.{leb, ltb, eqb}
+use Prim.Native.Nat.{ℕ}
+use mathlib.Core.Bool.{Bool, cond}
+use mathlib.Core.List.{List}
+use lib.Dec.{eqb}
 use lib.ListN.{length, drop}
-use Rattle.text.specs.Bytes.{begins, same}
-use Rattle.text.specs.Classes.{allIn}
-use Rattle.text.specs.declared.Class.the-variants.{C}
+use Rattle.text.specs.Bytes.{begins}
 use Rattle.amount.specs.Amounts.{amountRead, amountNumber}
 use Rattle.calendar.specs.Dates.{dateRead, dateNumber, momentRead, momentNumber}
+use Rattle.forms.specs.Narrative.{isNarrative}
+unfoldable pub use Rattle.forms.specs.Codes.{isCode, wordAt, isWord}
 
---   nothing   no more than the fixed text
---   codes     from a least to a most number of c
---   words     one of some words
---   other     a form that the message type judges by itself
+--   nothing     no more than the fixed text
+--   codes       from a least to a most number of c
+--   words       one of some words
+--   narrative   a service, and perhaps a period and a reason
+--   other       any text
 pub data Form : Type 0 where
   nothing : Form
   codes : ℕ → ℕ → Form
@@ -24,23 +25,12 @@ pub data Form : Type 0 where
   amount : Form
   date : Form
   moment : Form
+  narrative : Form
   other : Form
 
 pub record Slot : Type 0 where
   pub fixed : List ℕ
   pub form : Form
-
--- from a least to a most number of c
-unfoldable pub isCode : ℕ → ℕ → List ℕ → Bool
-isCode least most v = leb least (length v) && (leb (length v) most && allIn C v)
-
--- the place of a value among words, counted from 0; their number where it is none of them
-unfoldable pub wordAt : List (List ℕ) → List ℕ → ℕ
-wordAt [] v = 0
-wordAt (w ∷ ws) v = cond (same w v) 0 (suc (wordAt ws v))
-
-unfoldable pub isWord : List (List ℕ) → List ℕ → Bool
-isWord ws v = ltb (wordAt ws v) (length ws)
 
 unfoldable pub unless : Bool → ℕ
 unless b = cond b 0 10
@@ -53,6 +43,7 @@ formNumber (words ws) v = unless (isWord ws v)
 formNumber amount v = amountNumber (amountRead v)
 formNumber date v = dateNumber (dateRead v)
 formNumber moment v = momentNumber (momentRead v)
+formNumber narrative v = unless (isNarrative v)
 formNumber other v = 0
 
 -- all that follows a slot's qualifier

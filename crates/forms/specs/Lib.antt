@@ -1,2 +1,5 @@
+pub mod Codes
+pub mod Narrative
 pub mod Forms
 pub mod Slots
+pub mod Cases

@@ -6,18 +6,19 @@ use mathlib.Core.List.{List, [], _∷_}
 use lib.Dec.{leb}
 use lib.ListN.{length, take, drop, getD}
 use Rattle.text.specs.Bytes.{parts}
-use Rattle.forms.specs.Forms.{Form, Slot, nothing, codes, words, amount, date, moment, other}
+use Rattle.forms.specs.Forms.{Form, Slot, nothing, codes, words, amount, date, moment, narrative, other}
 
 -- words of four letters that stand one behind the other
 unfoldable pub wordsOf : List ℕ → List (List ℕ)
 wordsOf t = parts 4 (length t / 4) t
 
--- the forms are numbered as they stand here, from 0; of words there are `most`, up to four
+-- the forms are numbered as they stand here, from 0, and any other number is a form that takes any text; of words there are
+-- `most`, up to four
 unfoldable pub formOf : ℕ → ℕ → ℕ → List ℕ → Form
 formOf kind least most t =
-    getD (nothing ∷ codes least most ∷ words (wordsOf (take (most % 5 * 4) t)) ∷ amount ∷ date ∷ moment ∷ []) kind other
+    getD (nothing ∷ codes least most ∷ words (wordsOf (take (most % 5 * 4) t)) ∷ amount ∷ date ∷ moment ∷ narrative ∷ []) kind other
 
--- a slot that the bytes do not reach has no fixed text and no form
+-- a slot that the bytes do not reach has no fixed text and takes any text
 unfoldable pub slotAt : List ℕ → ℕ → Slot
 slotAt t slot =
     let s = take 32 (drop (slot * 32) t) in

@@ -1,6 +1,9 @@
 // The values of lines: each is judged by the fixed text and the form of its slot.
 //
-// Nothing here knows a slot: a message type hands its slots over as bytes. What is right stands in specs/Forms and specs/Slots.
+// Nothing here knows a slot: a message type hands its slots over as bytes. What is right stands in specs/Forms and specs/Slots,
+// over specs/Codes and specs/Narrative.
+pub mod narrative;
+
 use amount::Amount;
 use calendar::Date;
 use calendar::Moment;
@@ -72,6 +75,7 @@ fn judge_form(slot: &[u8], value: &[u8]) -> u64
         3 => Amount::read(value).number(),
         4 => Date::read(value).number(),
         5 => Moment::read(value).number(),
+        6 => unless(narrative::is_narrative(value)),
         _ => 0,
     }
 }

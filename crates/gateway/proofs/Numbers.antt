@@ -17,7 +17,7 @@ use Rattle.amount.specs.declared.AmountRead.{AmountRead}
 use Rattle.calendar.specs.Dates.{dateRead, dateNumber, momentRead, momentNumber}
 use Rattle.calendar.specs.declared.DateRead.{DateRead}
 use Rattle.calendar.specs.declared.MomentRead.{MomentRead}
-use Rattle.forms.specs.Forms.{Form, nothing, codes, words, amount, date, moment, other, isCode, isWord, unless, formNumber, valueNumber}
+use Rattle.forms.specs.Forms.{Form, nothing, codes, words, amount, date, moment, narrative, other, isCode, isWord, unless, formNumber, valueNumber}
 use Rattle.layout.specs.Rows.{Row, field, opens, closes, many, mark, back, ends}
 use Rattle.layout.specs.Layout.{Taken, Run, refusedAt, taken, wrong, moves, enters, takes, fits, isSeen, lacks, beneath, against, look, onward, scan, stepOf, withTaken, marked, behind, runOf, layoutOf}
 use Rattle.layout.specs.declared.Place.{Place}
@@ -27,7 +27,7 @@ use Rattle.layout.specs.declared.Look.the-variants.{Decided, Further}
 use Rattle.sheets.proofs.Small.{of-both}
 use Rattle.table.specs.Table.{table, slotOf, fixedOf}
 use Rattle.table.specs.Values.{numberOf, valueVerdict, valuesPass}
-use Rattle.trade.specs.Narrative.{isNarrative}
+use Rattle.forms.specs.Narrative.{isNarrative}
 use Rattle.trade.specs.declared.Trade.{Trade}
 use Rattle.kinds.specs.Kinds.{functionOf, lacksField, hasForbidden, when, recordPass, kindsPass}
 use Rattle.values.specs.Writable.{inForm}
@@ -230,13 +230,12 @@ form-few (words ws) v = unless-few (isWord ws v)
 form-few amount v = amount-few (amountRead v)
 form-few date v = date-few (dateRead v)
 form-few moment v = moment-few (momentRead v)
+form-few narrative v = unless-few (isNarrative v)
 form-few other v = few _ _ refl
 
 number-few : (slot : ℕ) (v : List ℕ) → FewOf (numberOf slot v)
 unfolding numberOf valueNumber
-number-few slot v =
-    either FewOf (eqb slot 21 && begins (fixedOf 21) v) (unless-few (isNarrative (drop (length (fixedOf 21)) v)))
-    (either FewOf (begins (slotOf slot .fixed) v) (form-few (slotOf slot .form) (drop (length (slotOf slot .fixed)) v)) (few _ _ refl))
+number-few slot v = either FewOf (begins (slotOf slot .fixed) v) (form-few (slotOf slot .form) (drop (length (slotOf slot .fixed)) v)) (few _ _ refl)
 
 values-few : (ts : List Taken) → Few 17 (valuesPass ts)
 unfolding valuesPass valueVerdict pass refused

@@ -11,7 +11,8 @@ use Rattle.lines.specs.Verdicts.{refused, pass, then}
 use Rattle.blocks.specs.Blocks.{isTagged, nameOf, isName, named, roleOf, ending, opening, closing, turn, follow, nest, nestPass}
 use Rattle.layout.specs.Layout.{fits, isSeen, lacks, beneath, against, look, onward, scan, stepOf, withTaken, marked, behind as behind-layout, runOf, layoutOf}
 use Rattle.forms.specs.Forms.{isCode, wordAt, isWord, unless, formNumber, valueNumber}
-use Rattle.trade.specs.Narrative.{serviceIn, hasPeriod, periodIn, behindPeriod, hasReason, reasonIn, goodPeriod, goodReason, isNarrative, serviceOf, periodOf}
+use Rattle.forms.specs.Narrative.{serviceIn, hasPeriod, periodIn, behindPeriod, hasReason, reasonIn, goodPeriod, goodReason, isNarrative}
+use Rattle.trade.specs.Narrative.{serviceOf, periodOf}
 use Rattle.trade.specs.Records.{kindIn, sideIn, partyOf, tradeOf, nobody, never, nought, blankTrade}
 use Rattle.kinds.specs.Kinds.{other, own, contra, stray, functionOf, lacksField, tddkOnly, tddkNever, hasForbidden, when, recordPass, kindsPass}
 use Rattle.calendar.specs.Dates.{year, month, day, leap, lengths, monthLength, isDate, isTime, earlier, isMoment, dateFrom, dateRead, momentOf, momentFrom, momentRead, dateText, momentText}

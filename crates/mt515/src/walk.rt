@@ -39,22 +39,12 @@ fn fixed_length(slots: &[u8], slot: usize) -> usize
     forms::fixed_text(slots, slot).len()
 }
 
-// The number of a value by its slot; the narrative has a form of its own.
+// The number of a value by its slot.
 fn number_of(slots: &[u8], slot: usize, value: &[u8]) -> u64
     requires { ⌜ AreSlots (now slots) ⌝ }
     ensures { λ r. ⌜ r ≡ numberOf slot (now (value .entry)) ⌝ }
 {
-    if slot != 21 {
-        return forms::judge(slots, slot, value);
-    }
-    if !text::begins_with(value, b"//GSCC") {
-        return forms::judge(slots, slot, value);
-    }
-    if trade::narrative::is_narrative(&value[6..]) {
-        0
-    } else {
-        10
-    }
+    forms::judge(slots, slot, value)
 }
 
 // The first fault of the values, after one more value; slot 0 has none.

@@ -1,23 +1,19 @@
--- The bytes of the slots are those of specs/Table: one test over all of them, and one law that gives it at each slot. And the
--- number of a value by its slot.
+-- The bytes of the slots are those of specs/Table: one test over all of them, and one law that gives it at each slot.
 -- Assumes nothing.
-use Prim.Native.Nat.{ℕ, zero, suc, _+_, _-_, _/_, _≤_, _<_}
+use Prim.Native.Nat.{ℕ, zero, suc, _+_, _/_, _≤_, _<_}
 use mathlib.Core.Path.{_≡_, refl, sym, ap, _∙_}
-use mathlib.Core.Bool.{Bool, true, false, _&&_, cond, and-false}
+use mathlib.Core.Bool.{Bool, true, false}
 use mathlib.Core.List.{List, [], _∷_}
 use native.Mathlib.Nat.{add-zero, zero-add, add-suc, suc-add, not-suc-le-zero, le-of-suc-le-suc}
 use native.Mathlib.Omega.{arith}
-use lib.Dec.{ltb, eqb}
-use lib.ListN.{length, take, drop, getD, List·getD-eq-default}
-use borrow.Author.Tests.{eq-eqb, ne-eqb, ltb-true, ltb-false}
-use Rattle.text.specs.Bytes.{bytes, begins}
-use Rattle.text.proofs.Laws.{rest-of}
-use Rattle.forms.specs.Forms.{Slot, other, unless, valueNumber}
+use lib.Dec.{ltb}
+use lib.ListN.{length, getD, List·getD-eq-default}
+use borrow.Author.Tests.{ltb-true, ltb-false}
+use Rattle.text.specs.Bytes.{bytes}
+use Rattle.forms.specs.Forms.{Slot, other}
 use Rattle.forms.specs.Slots.{slotAt}
 use Rattle.forms.proofs.Turns.{slot-none}
-use Rattle.trade.specs.Narrative.{isNarrative}
-use Rattle.table.specs.Table.{slots, slotOf, slot, fixedOf}
-use Rattle.table.specs.Values.{numberOf}
+use Rattle.table.specs.Table.{slots, slotOf, slot}
 
 -- the slots of some bytes, from the k-th on
 abbrev pub places : List ℕ → ℕ → ℕ → List Slot
@@ -39,23 +35,3 @@ slots-are t e l i = go (ltb i 32) refl
         let n : 32 ≤ i = ltb-false i 32 h in
         let m : length t / 32 ≤ i = omega arith in
         slot-none t i m ∙ sym (List·getD-eq-default slots (slot "" other) n)
-
--- ---- the number of a value
-
-fixed-is : fixedOf 21 ≡ bytes "//GSCC"
-unfolding slotOf slots
-fixed-is = refl
-
-module _ (s : ℕ) (v : List ℕ) where
-  pub no-narrative : (s ≡ 21 → ⊥) → valueNumber (slotOf s) v ≡ numberOf s v
-  unfolding numberOf
-  no-narrative h = rw (ne-eqb s 21 h)
-
-  pub no-fixed : begins (bytes "//GSCC") v ≡ false → valueNumber (slotOf s) v ≡ numberOf s v
-  unfolding numberOf
-  no-fixed h = rw (fixed-is, h, and-false (eqb s 21))
-
-  -- the code's part of the narrative runs to the value's end
-  pub narrative-number : s ≡ 21 → begins (bytes "//GSCC") v ≡ true → (b : Bool) → b ≡ isNarrative (take (length v - 6) (drop 6 v)) → cond b 0 10 ≡ numberOf s v
-  unfolding numberOf bytes unless
-  narrative-number e h b g = rw (eq-eqb s 21 e, fixed-is, h, g, rest-of 6 (length v) v refl)

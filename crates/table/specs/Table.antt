@@ -7,7 +7,7 @@ use mathlib.Core.Bool.{Bool, true, false}
 use mathlib.Core.List.{List, [], _∷_, map}
 use lib.ListN.{getD}
 use Rattle.text.specs.Bytes.{bytes}
-use Rattle.forms.specs.Forms.{Form, Slot, nothing, codes, words, amount, date, moment, other}
+use Rattle.forms.specs.Forms.{Form, Slot, nothing, codes, words, amount, date, moment, narrative, other}
 use Rattle.layout.specs.Rows.{Row, field, opens, closes, many, mark, back, ends}
 
 abbrev pub must : Bool
@@ -96,7 +96,7 @@ slots =
     ∷ slot "//FAMT/" amount
     ∷ slot "/US/" (codes 9 9)
     ∷ slot "/GSCC/" (codes 1 9)
-    ∷ slot "//GSCC" other
+    ∷ slot "//GSCC" narrative
     ∷ none ∷ none ∷ none ∷ none ∷ none ∷ none ∷ none ∷ none
     ∷ slot "/GSCC/CASH" nothing
     ∷ slot "//APMT" nothing

@@ -1,21 +1,18 @@
 -- Document 01, the numbers 10, 11 and 12 in one pass over the lines that were taken, and what their values are.
 use Prim.Native.Nat.{ℕ}
-use mathlib.Core.Bool.{_&&_, cond}
+use mathlib.Core.Bool.{cond}
 use mathlib.Core.List.{List, [], _∷_}
 use lib.Dec.{eqb}
 use lib.ListN.{length, drop}
-use Rattle.text.specs.Bytes.{begins}
 use Rattle.lines.specs.Verdicts.{refused, pass, then}
 use Rattle.lines.specs.declared.Verdict.{Verdict}
-use Rattle.forms.specs.Forms.{unless, valueNumber}
+use Rattle.forms.specs.Forms.{valueNumber}
 use Rattle.layout.specs.Layout.{Taken}
-use Rattle.trade.specs.Narrative.{isNarrative}
 use Rattle.table.specs.Table.{slotOf, fixedOf}
 
--- the number of a value: the narrative has a form of its own
+-- the number of a value, by its slot
 unfoldable pub numberOf : ℕ → List ℕ → ℕ
-numberOf slot v =
-    cond (eqb slot 21 && begins (fixedOf 21) v) (unless (isNarrative (drop (length (fixedOf 21)) v))) (valueNumber (slotOf slot) v)
+numberOf slot v = valueNumber (slotOf slot) v
 
 unfoldable pub valueVerdict : ℕ → ℕ → List ℕ → Verdict
 valueVerdict slot line v = cond (eqb (numberOf slot v) 0) pass (refused (numberOf slot v) line)

@@ -1,12 +1,11 @@
--- Each text of the tables gets what stands beside it, by computation.
+-- Each text of the table gets what stands beside it, by computation.
 -- Assumes nothing.
 use mathlib.Core.Path.{refl}
-use Rattle.text.specs.Bytes.{bytes, begins, same}
-use Rattle.text.specs.Classes.{allIn, inClass, isC, isUpper, isDigit, isBetween}
-use Rattle.forms.specs.Forms.{isCode, wordAt, isWord}
-use Rattle.trade.specs.Narrative.{serviceIn, hasPeriod, periodIn, behindPeriod, hasReason, reasonIn, goodPeriod, goodReason, isNarrative, periodOf}
-use Rattle.trade.specs.Cases.{cases, periods, Answered}
+use Rattle.text.specs.Bytes.{bytes, begins}
+use Rattle.forms.specs.Narrative.{hasPeriod, periodIn}
+use Rattle.trade.specs.Narrative.{periodOf}
+use Rattle.trade.specs.Cases.{periods, Answered}
 
 pub answered : Answered
-unfolding cases periods bytes begins same allIn inClass isC isUpper isDigit isBetween isCode wordAt isWord serviceIn hasPeriod periodIn behindPeriod hasReason reasonIn goodPeriod goodReason isNarrative periodOf
-answered = (refl, refl)
+unfolding periods bytes begins hasPeriod periodIn periodOf
+answered = refl

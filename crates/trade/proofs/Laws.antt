@@ -9,7 +9,8 @@ use Rattle.digits.specs.Numerals.{fixedOf}
 use Rattle.amount.specs.Amounts.{amountRead, isAmount, whole}
 use Rattle.calendar.specs.Dates.{dateRead, dateFrom, momentRead, momentFrom}
 use Rattle.forms.specs.Forms.{wordAt}
-use Rattle.trade.specs.Narrative.{serviceOf, serviceIn, periodOf, hasPeriod, reasonIn, hasReason, behindPeriod}
+use Rattle.forms.specs.Narrative.{serviceIn, hasPeriod, reasonIn, hasReason, behindPeriod}
+use Rattle.trade.specs.Narrative.{serviceOf, periodOf}
 use Rattle.trade.specs.Records.{kindIn, sideIn, partyOf, tradeOf, nobody, never, nought, blankTrade}
 
 pub blank-is : tradeOf (λ slot. []) ≡ blankTrade

@@ -1,49 +1,26 @@
--- The mathematics of the crate's functions, over plain lists and numbers: parts of a value, code words by their places, and the
--- record from its fields.
+-- The mathematics of the crate's functions, over plain lists and numbers: code words by their places, and the record from its
+-- fields.
 -- Assumes nothing.
-use Prim.Native.Nat.{ℕ, zero, suc, _≤_, _<_}
-use mathlib.Core.Path.{_≡_, refl, sym, ap, _∙_}
-use mathlib.Core.Bool.{true, false}
+use Prim.Native.Nat.{ℕ, zero, suc, _<_}
+use mathlib.Core.Path.{_≡_, refl, sym, _∙_}
 use mathlib.Core.List.{List, [], _∷_}
-use native.Mathlib.Nat.{le-of-lt, le-of-suc-le-suc, zero-lt-suc}
+use native.Mathlib.Nat.{le-of-suc-le-suc, zero-lt-suc}
 use native.Mathlib.Omega.{arith}
-use lib.ListN.{length, take, drop, getD, drop-of-length-le, List·getD-eq-default}
-use lib.Seq.{getD-drop, take-all}
-use borrow.Author.Tests.{le-ltb, lt-ltb}
+use lib.ListN.{length, getD, List·getD-eq-default}
 use Rattle.text.specs.Bytes.{bytes, parts}
 use Rattle.text.specs.Texts.{textOf}
 use Rattle.amount.specs.Amounts.{amountRead}
 use Rattle.amount.specs.declared.Amount.{Amount}
 use Rattle.calendar.specs.Dates.{dateRead, momentRead}
-use Rattle.forms.specs.Forms.{wordAt, isWord}
+use Rattle.forms.specs.Forms.{wordAt}
+use Rattle.forms.specs.Narrative.{services, serviceIn, reasonIn}
 use Rattle.forms.specs.Slots.{wordsOf}
-use Rattle.trade.specs.Narrative.{services, serviceIn, periodIn, reasonIn, serviceOf, periodOf}
+use Rattle.trade.specs.Narrative.{serviceOf, periodOf}
 use Rattle.trade.specs.Records.{kindIn, sideIn, amountOr0, dateOr0, momentOr0, partyOf, tradeOf}
 use Rattle.trade.specs.declared.Kind.{Kind}
 use Rattle.trade.specs.declared.Side.{Side}
 use Rattle.trade.specs.declared.Service.{Service}
 use Rattle.trade.specs.declared.Trade.{Trade}
-
--- ---- parts of a value
-
-pub none-left : (k : ℕ) (s : List ℕ) → length s < k → [] ≡ drop k s
-none-left k s h = sym (drop-of-length-le s (le-of-lt h))
-
--- a word that is cut short by the end of the value is all that is left
-pub short-word : (v w : List ℕ) → w ≡ drop 5 v → length w < 4 → w ≡ serviceIn v
-unfolding serviceIn
-short-word v w e h = sym (ap (take 4) (sym e) ∙ take-all 4 w (omega arith))
-
-pub whole-word : (v w : List ℕ) → w ≡ drop 5 v → take 4 w ≡ serviceIn v
-unfolding serviceIn
-whole-word v w e = rw e
-
-pub period-at : (v : List ℕ) → getD v 14 0 ≡ periodIn v
-unfolding periodIn
-period-at v = rw getD-drop
-
-pub no-period : (v : List ℕ) → length v < 15 → 0 ≡ periodIn v
-no-period v h = sym (List·getD-eq-default v 0 (omega arith)) ∙ period-at v
 
 -- ---- code words by their places
 
@@ -68,21 +45,13 @@ module _ (v : List ℕ) (k : ℕ) (e : k ≡ wordAt (wordsOf (bytes "BUYISELL"))
   pub side-else : (k ≡ 1 → ⊥) → Side.Buyi ≡ sideIn v
   side-else f = first-else Side.Buyi (Side.Sell ∷ []) k (λ p. omega arith) ∙ side-is k refl
 
-module _ (v w : List ℕ) (k : ℕ) (is : w ≡ serviceIn v) (e : k ≡ wordAt (wordsOf (bytes "SBODTFTDSTIP")) w) where
+module _ (v : List ℕ) (k : ℕ) (e : k ≡ wordAt services (serviceIn v)) where
   pub service-is : (n : ℕ) → k ≡ n → getD (Service.Sbod ∷ Service.Tftd ∷ Service.Stip ∷ []) n Service.Sbod ≡ serviceOf v
-  unfolding serviceOf bytes wordsOf parts
-  service-is n h = rw (← h, e, is)
+  unfolding serviceOf
+  service-is n h = rw (← h, e)
 
   pub service-else : (k ≡ 1 → ⊥) → (k ≡ 2 → ⊥) → Service.Sbod ≡ serviceOf v
   service-else f g = first-else Service.Sbod (Service.Tftd ∷ Service.Stip ∷ []) k (λ p. omega arith) ∙ service-is k refl
-
-  pub service-none : 3 ≤ k → isWord services (serviceIn v) ≡ false
-  unfolding isWord bytes wordsOf parts
-  service-none h = rw (← is, ← e) (le-ltb k 3 h)
-
-  pub service-one : k < 3 → isWord services (serviceIn v) ≡ true
-  unfolding isWord bytes wordsOf parts
-  service-one h = rw (← is, ← e) (lt-ltb k 3 h)
 
 -- ---- the record by its fields
 

@@ -1,51 +1,12 @@
--- Document 01, the value of 70E behind `//GSCC`: `/TDSV` and SBOD, TFTD or STIP; then optionally `/GUPP` and one digit; then
--- optionally `/DKRS` and 4 c.
+-- Document 01, the value of 70E behind `//GSCC`: what it means. The first of the words, and no period, where it is none.
 use Prim.Native.Nat.{ℕ, _-_}
-use mathlib.Core.Bool.{Bool, _&&_, _||_, not, cond}
+use mathlib.Core.Bool.{cond}
 use mathlib.Core.List.{List, [], _∷_}
-use lib.Dec.{eqb}
-use lib.ListN.{length, take, drop, getD}
-use Rattle.text.specs.Bytes.{bytes, begins}
-use Rattle.text.specs.Classes.{isDigit}
-use Rattle.forms.specs.Forms.{isCode, wordAt, isWord}
+use lib.ListN.{getD}
+use Rattle.forms.specs.Forms.{wordAt}
+use Rattle.forms.specs.Narrative.{services, serviceIn, hasPeriod, periodIn}
 use Rattle.trade.specs.declared.Service.{Service}
 use Rattle.trade.specs.declared.Period.{Period}
-
-abbrev pub services : List (List ℕ)
-services = bytes "SBOD" ∷ bytes "TFTD" ∷ bytes "STIP" ∷ []
-
--- the word behind `/TDSV`
-unfoldable pub serviceIn : List ℕ → List ℕ
-serviceIn v = take 4 (drop 5 v)
-
--- a period stands behind the word, or not; and what is left behind it
-unfoldable pub hasPeriod : List ℕ → Bool
-hasPeriod v = begins (bytes "/GUPP") (drop 9 v)
-
-unfoldable pub periodIn : List ℕ → ℕ
-periodIn v = getD (drop 9 v) 5 0
-
-unfoldable pub behindPeriod : List ℕ → List ℕ
-behindPeriod v = cond (hasPeriod v) (drop 15 v) (drop 9 v)
-
-unfoldable pub hasReason : List ℕ → Bool
-hasReason v = begins (bytes "/DKRS") (behindPeriod v)
-
-unfoldable pub reasonIn : List ℕ → List ℕ
-reasonIn v = cond (hasReason v) (drop 5 (behindPeriod v)) []
-
--- a period, where there is one, is one digit
-unfoldable pub goodPeriod : List ℕ → Bool
-goodPeriod v = not (hasPeriod v) || isDigit (periodIn v)
-
--- a reason, where there is one, is 4 c; and nothing else stands behind the period
-unfoldable pub goodReason : List ℕ → Bool
-goodReason v = cond (hasReason v) (isCode 4 4 (reasonIn v)) (eqb (length (behindPeriod v)) 0)
-
-unfoldable pub isNarrative : List ℕ → Bool
-isNarrative v = begins (bytes "/TDSV") v && (isWord services (serviceIn v) && (goodPeriod v && goodReason v))
-
--- ---- what it means; the first of the words, and no period and no reason, where it is none
 
 unfoldable pub serviceOf : List ℕ → Service
 serviceOf v = getD (Service.Sbod ∷ Service.Tftd ∷ Service.Stip ∷ []) (wordAt services (serviceIn v)) Service.Sbod

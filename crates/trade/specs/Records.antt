@@ -13,7 +13,8 @@ use Rattle.calendar.specs.declared.Moment.{Moment}
 use Rattle.calendar.specs.declared.DateRead.{DateRead}
 use Rattle.calendar.specs.declared.MomentRead.{MomentRead}
 use Rattle.forms.specs.Forms.{wordAt}
-use Rattle.trade.specs.Narrative.{serviceOf, periodOf, reasonIn}
+use Rattle.forms.specs.Narrative.{reasonIn}
+use Rattle.trade.specs.Narrative.{serviceOf, periodOf}
 use Rattle.trade.specs.declared.Kind.{Kind}
 use Rattle.trade.specs.declared.Side.{Side}
 use Rattle.trade.specs.declared.Service.{Service}

@@ -1,7 +1,7 @@
 // A trade as it is held: the record, and how it is had from the values of a message's slots.
 //
 // What is right stands in specs/Narrative and specs/Records.
-pub mod narrative;
+mod narrative;
 mod words;
 
 use amount::Amount;
@@ -206,6 +206,6 @@ pub fn gather<'a, 'b>(message: &'a [u8], starts: &'b [usize], ends: &'b [usize])
         pool: text_at(message, starts, ends, 20),
         service: narrative::service_of(narrative),
         period: narrative::period_of(narrative),
-        reason: Text::of(narrative::reason_in(narrative)),
+        reason: Text::of(forms::narrative::reason_in(narrative)),
     }
 }

@@ -1,117 +1,13 @@
-// The narrative: its parts, whether it is one, and what it means.
+// What the narrative means: its service and its period.
 use super::Period;
 use super::Service;
-use text::Class;
 ghost use mathlib.Core.Path.{_≡_};
-ghost use lib.ListN.{drop};
-ghost use Rattle.trade.specs.Narrative.{serviceIn, hasPeriod, periodIn, behindPeriod, hasReason, reasonIn, goodPeriod, goodReason, isNarrative, serviceOf, periodOf};
-
-const SERVICES: [u8; 12] = *b"SBODTFTDSTIP";
-
-// What is left of a value from a place on.
-fn from(value: &[u8], place: usize) -> &[u8]
-    ensures { λ r. ⌜ now r ≡ drop place (now (value .entry)) ⌝ }
-{
-    if value.len() < place {
-        return &value[..0];
-    }
-    &value[place..]
-}
-
-// The word behind `/TDSV`.
-fn service_in(value: &[u8]) -> &[u8]
-    ensures { λ r. ⌜ now r ≡ serviceIn (now (value .entry)) ⌝ }
-{
-    let word = from(value, 5);
-    if word.len() < 4 {
-        return word;
-    }
-    &word[..4]
-}
-
-fn has_period(value: &[u8]) -> bool
-    ensures { λ r. ⌜ r ≡ hasPeriod (now (value .entry)) ⌝ }
-{
-    text::begins_with(from(value, 9), b"/GUPP")
-}
-
-// The byte behind `/GUPP`; 0 where there is none.
-fn period_in(value: &[u8]) -> u8
-    ensures { λ r. ⌜ r ≡ periodIn (now (value .entry)) ⌝ }
-{
-    if value.len() < 15 { 0 } else { value[14] }
-}
-
-// What is left behind the word, and behind the period where there is one.
-fn behind_period(value: &[u8]) -> &[u8]
-    ensures { λ r. ⌜ now r ≡ behindPeriod (now (value .entry)) ⌝ }
-{
-    if has_period(value) {
-        from(value, 15)
-    } else {
-        from(value, 9)
-    }
-}
-
-fn has_reason(value: &[u8]) -> bool
-    ensures { λ r. ⌜ r ≡ hasReason (now (value .entry)) ⌝ }
-{
-    text::begins_with(behind_period(value), b"/DKRS")
-}
-
-// What stands behind `/DKRS`; nothing where there is none.
-pub(crate) fn reason_in(value: &[u8]) -> &[u8]
-    ensures { λ r. ⌜ now r ≡ reasonIn (now (value .entry)) ⌝ }
-{
-    if has_reason(value) {
-        from(behind_period(value), 5)
-    } else {
-        &value[..0]
-    }
-}
-
-// A period, where there is one, is one digit.
-fn good_period(value: &[u8]) -> bool
-    ensures { λ r. ⌜ r ≡ goodPeriod (now (value .entry)) ⌝ }
-{
-    if has_period(value) {
-        text::in_class(Class::Digit, period_in(value))
-    } else {
-        true
-    }
-}
-
-// A reason, where there is one, is 4 c; and nothing else stands behind the period.
-fn good_reason(value: &[u8]) -> bool
-    ensures { λ r. ⌜ r ≡ goodReason (now (value .entry)) ⌝ }
-{
-    if has_reason(value) {
-        forms::is_code(reason_in(value), 4, 4)
-    } else {
-        behind_period(value).len() == 0
-    }
-}
-
-// The value of 70E behind `//GSCC` is in its form.
-pub fn is_narrative(value: &[u8]) -> bool
-    ensures { λ r. ⌜ r ≡ isNarrative (now (value .entry)) ⌝ }
-{
-    if !text::begins_with(value, b"/TDSV") {
-        return false;
-    }
-    if 3 <= forms::word_at(&SERVICES, service_in(value)) {
-        return false;
-    }
-    if !good_period(value) {
-        return false;
-    }
-    good_reason(value)
-}
+ghost use Rattle.trade.specs.Narrative.{serviceOf, periodOf};
 
 pub(crate) fn service_of(value: &[u8]) -> Service
     ensures { λ r. ⌜ r ≡ serviceOf (now (value .entry)) ⌝ }
 {
-    match forms::word_at(&SERVICES, service_in(value)) {
+    match forms::narrative::service_at(value) {
         1 => Service::Tftd,
         2 => Service::Stip,
         _ => Service::Sbod,
@@ -121,10 +17,10 @@ pub(crate) fn service_of(value: &[u8]) -> Service
 pub(crate) fn period_of(value: &[u8]) -> Period
     ensures { λ r. ⌜ r ≡ periodOf (now (value .entry)) ⌝ }
 {
-    if !has_period(value) {
+    if !forms::narrative::has_period(value) {
         return Period::Absent;
     }
-    let digit = period_in(value);
+    let digit = forms::narrative::period_in(value);
     if digit <= b'0' {
         return Period::Days(0);
     }

@@ -22,7 +22,7 @@ use Rattle.amount.proofs.Laws.{amount-round}
 use Rattle.calendar.specs.Dates.{dateNumber, dateText, momentRead, momentNumber, momentText}
 use Rattle.calendar.proofs.Laws.{date-round, moment-round}
 use Rattle.forms.specs.Forms.{isCode, wordAt, isWord, unless, formNumber, valueNumber}
-use Rattle.trade.specs.Narrative.{isNarrative}
+use Rattle.forms.specs.Narrative.{isNarrative}
 use Rattle.trade.specs.Records.{kinds, sides, kindIn, sideIn, momentOr0, partyOf, tradeOf}
 use Rattle.trade.specs.declared.Kind.{Kind}
 use Rattle.trade.specs.declared.Side.{Side}
@@ -37,13 +37,9 @@ use Rattle.values.proofs.Narratives.{nothing, narrative-short, told-par
 
 -- ---- the number of a line that is a slot's fixed text and a value
 
-pub number-form : (slot : ℕ) (v : List ℕ) → eqb slot 21 ≡ false → numberOf slot (fixedOf slot ++ v) ≡ formNumber (slotOf slot .form) v
+pub number-form : (slot : ℕ) (v : List ℕ) → numberOf slot (fixedOf slot ++ v) ≡ formNumber (slotOf slot .form) v
 unfolding numberOf valueNumber
-number-form slot v e = rw (e, begins-append (fixedOf slot) v, drop-at (fixedOf slot) v (length (fixedOf slot)) refl)
-
-pub number-told : (v : List ℕ) → numberOf 21 (fixedOf 21 ++ v) ≡ unless (isNarrative v)
-unfolding numberOf
-number-told v = rw (begins-append (fixedOf 21) v, drop-at (fixedOf 21) v (length (fixedOf 21)) refl)
+number-form slot v = rw (begins-append (fixedOf slot) v, drop-at (fixedOf slot) v (length (fixedOf slot)) refl)
 
 unless-good : (b : Bool) → unless b ≡ 0 → b ≡ true
 unfolding unless
@@ -69,21 +65,21 @@ lined slot = isBetween 1 21 slot || isBetween 30 31 slot
 abbrev pub Filled : ℕ → List ℕ → Type 0
 Filled slot v = ((v ≡ []) × (optional slot ≡ true)) ⊎ (numberOf slot (fixedOf slot ++ v) ≡ 0)
 
-filled : (slot : ℕ) (v : List ℕ) → eqb slot 21 ≡ false → formNumber (slotOf slot .form) v ≡ 0 → Filled slot v
-filled slot v e h = inr (number-form slot v e ∙ h)
+filled : (slot : ℕ) (v : List ℕ) → formNumber (slotOf slot .form) v ≡ 0 → Filled slot v
+filled slot v h = inr (number-form slot v ∙ h)
 
 -- a text that must be there, and one that may be
-must : (slot least most : ℕ) (x : Text) → eqb slot 21 ≡ false → textForm least most x ≡ true
+must : (slot least most : ℕ) (x : Text) → textForm least most x ≡ true
     → formNumber (slotOf slot .form) (contents x) ≡ unless (isCode least most (contents x)) → Filled slot (contents x)
-must slot least most x e h is = filled slot (contents x) e (is ∙ good-unless _ (text-code least most x h))
+must slot least most x h is = filled slot (contents x) (is ∙ good-unless _ (text-code least most x h))
 
-may : (slot most : ℕ) (x : Text) → (eqb slot 21 ≡ false) → optional slot ≡ true → textForm 0 most x ≡ true
+may : (slot most : ℕ) (x : Text) → optional slot ≡ true → textForm 0 most x ≡ true
     → formNumber (slotOf slot .form) (contents x) ≡ unless (isCode 1 most (contents x)) → Filled slot (contents x)
-may slot most x e o h is = go (eqb (length (contents x)) 0) refl
+may slot most x o h is = go (eqb (length (contents x)) 0) refl
   where
     go : (b : Bool) → eqb (length (contents x)) 0 ≡ b → Filled slot (contents x)
     go true n = inl (nothing (contents x) (eqb-true _ _ n), o)
-    go false n = filled slot (contents x) e (is ∙ good-unless (isCode 1 most (contents x)) (code-some most (contents x) (text-code 0 most x h) n))
+    go false n = filled slot (contents x) (is ∙ good-unless (isCode 1 most (contents x)) (code-some most (contents x) (text-code 0 most x h) n))
 
 -- what it says of all values of a message: each slot is filled, the header is in form, and 23G goes with the kind
 pub record Held (value : ℕ → List ℕ) : Type 0 where
@@ -181,35 +177,36 @@ module _ (t : Trade) (form : inForm t ≡ true) where
     where
       go : (momentText (t .prep) ≡ []) ⊎ (momentNumber (momentRead (momentText (t .prep))) ≡ 0) → Filled 3 (momentText (t .prep))
       go (inl e) = inl (e, refl)
-      go (inr e) = filled 3 (momentText (t .prep)) refl e
+      go (inr e) = filled 3 (momentText (t .prep)) e
 
   told : Filled 21 (narrative (t .service) (t .period) (t .reason))
-  told = inr (number-told (narrative (t .service) (t .period) (t .reason)) ∙ good-unless _ (told-parts (t .service) (t .period) (t .reason) (narrated .0) (narrated .1) .is))
+  unfolding slotOf slots formNumber
+  told = filled 21 (narrative (t .service) (t .period) (t .reason)) (good-unless _ (told-parts (t .service) (t .period) (t .reason) (narrated .0) (narrated .1) .is))
 
   each-filled : Each (λ slot. Filled slot (valueOf t slot)) 0 22
   unfolding valueOf values optional slotOf slots formNumber tests
   each-filled =
-      filled 0 [] refl (good-unless true refl)
-      ⨾ must 1 1 16 (t .seme) refl (test 1) refl
-      ⨾ filled 2 (functionOf (t .kind)) refl (good-unless _ (function-word (t .kind)))
+      filled 0 [] (good-unless true refl)
+      ⨾ must 1 1 16 (t .seme) (test 1) refl
+      ⨾ filled 2 (functionOf (t .kind)) (good-unless _ (function-word (t .kind)))
       ⨾ prep
-      ⨾ may 4 16 (t .mast) refl refl (test 4) refl
-      ⨾ may 5 16 (t .prev) refl refl (test 5) refl
-      ⨾ may 6 16 (t .list) refl refl (test 6) refl
-      ⨾ filled 7 (momentText (t .trad)) refl (ap momentNumber (moment-round (t .trad) (test 7)))
-      ⨾ filled 8 (dateText (t .sett)) refl (ap dateNumber (date-round (t .sett) (test 8)))
-      ⨾ filled 9 (amountText (t .price .0)) refl (ap amountNumber (amount-round (t .price .0) (test 9)))
-      ⨾ filled 10 (sideWord (t .side)) refl (good-unless _ (side-word (t .side)))
-      ⨾ filled 11 (kindWord (t .kind)) refl (good-unless _ (kind-word (t .kind)))
-      ⨾ must 12 4 4 (t .buyer .code) refl (test 12) refl
-      ⨾ may 13 16 (t .buyer .reference) refl refl (test 13) refl
-      ⨾ may 14 20 (t .buyer .trader) refl refl (test 14) refl
-      ⨾ must 15 4 4 (t .seller .code) refl (test 15) refl
-      ⨾ may 16 16 (t .seller .reference) refl refl (test 16) refl
-      ⨾ may 17 20 (t .seller .trader) refl refl (test 17) refl
-      ⨾ filled 18 (amountText (t .par .0)) refl (ap amountNumber (amount-round (t .par .0) (test 18)))
-      ⨾ must 19 9 9 (t .cusip) refl (test 19) refl
-      ⨾ may 20 9 (t .pool) refl refl (test 20) refl
+      ⨾ may 4 16 (t .mast) refl (test 4) refl
+      ⨾ may 5 16 (t .prev) refl (test 5) refl
+      ⨾ may 6 16 (t .list) refl (test 6) refl
+      ⨾ filled 7 (momentText (t .trad)) (ap momentNumber (moment-round (t .trad) (test 7)))
+      ⨾ filled 8 (dateText (t .sett)) (ap dateNumber (date-round (t .sett) (test 8)))
+      ⨾ filled 9 (amountText (t .price .0)) (ap amountNumber (amount-round (t .price .0) (test 9)))
+      ⨾ filled 10 (sideWord (t .side)) (good-unless _ (side-word (t .side)))
+      ⨾ filled 11 (kindWord (t .kind)) (good-unless _ (kind-word (t .kind)))
+      ⨾ must 12 4 4 (t .buyer .code) (test 12) refl
+      ⨾ may 13 16 (t .buyer .reference) refl (test 13) refl
+      ⨾ may 14 20 (t .buyer .trader) refl (test 14) refl
+      ⨾ must 15 4 4 (t .seller .code) (test 15) refl
+      ⨾ may 16 16 (t .seller .reference) refl (test 16) refl
+      ⨾ may 17 20 (t .seller .trader) refl (test 17) refl
+      ⨾ filled 18 (amountText (t .par .0)) (ap amountNumber (amount-round (t .par .0) (test 18)))
+      ⨾ must 19 9 9 (t .cusip) (test 19) refl
+      ⨾ may 20 9 (t .pool) refl (test 20) refl
       ⨾ told
       ⨾ tt
 
@@ -233,12 +230,12 @@ module _ (t : Trade) (form : inForm t ≡ true) where
       none n e h = rw e h
 
       go : (z : Bool) → eqb slot 30 ≡ z → numberOf slot (fixedOf slot ++ valueOf t slot) ≡ 0
-      go true e = none 30 (eqb-true _ _ e) (number-form 30 [] refl ∙ good-unless true refl)
+      go true e = none 30 (eqb-true _ _ e) (number-form 30 [] ∙ good-unless true refl)
       go false e =
           let low : 30 ≤ slot = leb-true _ _ (and-left _ _ b) in
           let high = below 30 31 slot b in
           let n : slot ≡ 30 → ⊥ = eqb-false slot 30 e in
-          none 31 (omega arith) (number-form 31 [] refl ∙ good-unless true refl)
+          none 31 (omega arith) (number-form 31 [] ∙ good-unless true refl)
 
   -- each line that a record has gets 0: one for every slot but those that are optional and have no value
   pub value-good : (slot : ℕ) → lined slot ≡ true → (optional slot && eqb (length (valueOf t slot)) 0) ≡ false
@@ -257,16 +254,16 @@ module _ (t : Trade) (form : inForm t ≡ true) where
 
 module _ (value : ℕ → List ℕ) (h : Held value) where
   -- what a slot's own form says of its value
-  form-of : (slot : ℕ) → isBetween 1 21 slot ≡ true → eqb slot 21 ≡ false
+  form-of : (slot : ℕ) → isBetween 1 21 slot ≡ true
       → ((value slot ≡ []) × (optional slot ≡ true)) ⊎ (formNumber (slotOf slot .form) (value slot) ≡ 0)
-  form-of slot b e = go (h .each slot b)
+  form-of slot b = go (h .each slot b)
     where
       go : Filled slot (value slot) → ((value slot ≡ []) × (optional slot ≡ true)) ⊎ (formNumber (slotOf slot .form) (value slot) ≡ 0)
       go (inl n) = inl n
-      go (inr n) = inr (sym (number-form slot (value slot) e) ∙ n)
+      go (inr n) = inr (sym (number-form slot (value slot)) ∙ n)
 
-  must-form : (slot : ℕ) → isBetween 1 21 slot ≡ true → eqb slot 21 ≡ false → optional slot ≡ false → formNumber (slotOf slot .form) (value slot) ≡ 0
-  must-form slot b e o = go (form-of slot b e)
+  must-form : (slot : ℕ) → isBetween 1 21 slot ≡ true → optional slot ≡ false → formNumber (slotOf slot .form) (value slot) ≡ 0
+  must-form slot b o = go (form-of slot b)
     where
       go : ((value slot ≡ []) × (optional slot ≡ true)) ⊎ (formNumber (slotOf slot .form) (value slot) ≡ 0) → formNumber (slotOf slot .form) (value slot) ≡ 0
       go (inl n) = absurd (true≢false (sym (n .1) ∙ o))
@@ -295,19 +292,15 @@ module _ (value : ℕ → List ℕ) (h : Held value) where
 
   prep-kept : (prepForm (momentOr0 (momentRead (value 3))) ≡ true) × (momentText (momentOr0 (momentRead (value 3))) ≡ value 3)
   unfolding optional slotOf slots formNumber isBetween
-  prep-kept = prep-held (value 3) (go (form-of 3 refl refl))
+  prep-kept = prep-held (value 3) (go (form-of 3 refl))
     where
       go : ((value 3 ≡ []) × (optional 3 ≡ true)) ⊎ (momentNumber (momentRead (value 3)) ≡ 0) → (value 3 ≡ []) ⊎ (momentNumber (momentRead (value 3)) ≡ 0)
       go (inl n) = inl (n .0)
       go (inr n) = inr n
 
   told-kept : isNarrative (value 21) ≡ true
-  unfolding optional isBetween
-  told-kept = go (h .each 21 refl)
-    where
-      go : Filled 21 (value 21) → isNarrative (value 21) ≡ true
-      go (inl n) = absurd (true≢false (sym (n .1)))
-      go (inr n) = unless-good _ (sym (number-told (value 21)) ∙ n)
+  unfolding optional isBetween slotOf slots formNumber
+  told-kept = unless-good _ (must-form 21 refl refl)
 
   none : (slot : ℕ) → getD (tests (tradeOf value)) slot true ≡ true → named slot ≡ false → Kept slot
   none slot a b = (a, λ n. absurd (true≢false (sym n ∙ b)))
@@ -316,26 +309,26 @@ module _ (value : ℕ → List ℕ) (h : Held value) where
   unfolding tradeOf partyOf tests valueOf values tidied optional slotOf slots formNumber isBetween kindIn sideIn kindWord sideWord bytes
   each-kept =
       none 0 refl refl
-      ⨾ kept 1 (must-text 1 1 16 refl (must-form 1 refl refl refl))
+      ⨾ kept 1 (must-text 1 1 16 refl (must-form 1 refl refl))
       ⨾ kept 2 (refl, sym (h .function))
       ⨾ kept 3 prep-kept
-      ⨾ kept 4 (may-text 4 16 refl (form-of 4 refl refl))
-      ⨾ kept 5 (may-text 5 16 refl (form-of 5 refl refl))
-      ⨾ kept 6 (may-text 6 16 refl (form-of 6 refl refl))
-      ⨾ kept 7 (moment-held (value 7) (must-form 7 refl refl refl))
-      ⨾ kept 8 (date-held (value 8) (must-form 8 refl refl refl))
-      ⨾ kept 9 (amount-held (value 9) (must-form 9 refl refl refl))
-      ⨾ kept 10 (refl, word-back sides (Side.Buyi ∷ Side.Sell ∷ []) Side.Buyi sideWord (refl ⨾ refl ⨾ tt) (value 10) (unless-good _ (must-form 10 refl refl refl)))
-      ⨾ kept 11 (refl, word-back kinds (Kind.Inst ∷ Kind.Canc ∷ Kind.Mdfc ∷ Kind.Tddk ∷ []) Kind.Inst kindWord (refl ⨾ refl ⨾ refl ⨾ refl ⨾ tt) (value 11) (unless-good _ (must-form 11 refl refl refl)))
-      ⨾ kept 12 (must-text 12 4 4 refl (must-form 12 refl refl refl))
-      ⨾ kept 13 (may-text 13 16 refl (form-of 13 refl refl))
-      ⨾ kept 14 (may-text 14 20 refl (form-of 14 refl refl))
-      ⨾ kept 15 (must-text 15 4 4 refl (must-form 15 refl refl refl))
-      ⨾ kept 16 (may-text 16 16 refl (form-of 16 refl refl))
-      ⨾ kept 17 (may-text 17 20 refl (form-of 17 refl refl))
-      ⨾ kept 18 (amount-held (value 18) (must-form 18 refl refl refl))
-      ⨾ kept 19 (must-text 19 9 9 refl (must-form 19 refl refl refl))
-      ⨾ kept 20 (may-text 20 9 refl (form-of 20 refl refl))
+      ⨾ kept 4 (may-text 4 16 refl (form-of 4 refl))
+      ⨾ kept 5 (may-text 5 16 refl (form-of 5 refl))
+      ⨾ kept 6 (may-text 6 16 refl (form-of 6 refl))
+      ⨾ kept 7 (moment-held (value 7) (must-form 7 refl refl))
+      ⨾ kept 8 (date-held (value 8) (must-form 8 refl refl))
+      ⨾ kept 9 (amount-held (value 9) (must-form 9 refl refl))
+      ⨾ kept 10 (refl, word-back sides (Side.Buyi ∷ Side.Sell ∷ []) Side.Buyi sideWord (refl ⨾ refl ⨾ tt) (value 10) (unless-good _ (must-form 10 refl refl)))
+      ⨾ kept 11 (refl, word-back kinds (Kind.Inst ∷ Kind.Canc ∷ Kind.Mdfc ∷ Kind.Tddk ∷ []) Kind.Inst kindWord (refl ⨾ refl ⨾ refl ⨾ refl ⨾ tt) (value 11) (unless-good _ (must-form 11 refl refl)))
+      ⨾ kept 12 (must-text 12 4 4 refl (must-form 12 refl refl))
+      ⨾ kept 13 (may-text 13 16 refl (form-of 13 refl))
+      ⨾ kept 14 (may-text 14 20 refl (form-of 14 refl))
+      ⨾ kept 15 (must-text 15 4 4 refl (must-form 15 refl refl))
+      ⨾ kept 16 (may-text 16 16 refl (form-of 16 refl))
+      ⨾ kept 17 (may-text 17 20 refl (form-of 17 refl))
+      ⨾ kept 18 (amount-held (value 18) (must-form 18 refl refl))
+      ⨾ kept 19 (must-text 19 9 9 refl (must-form 19 refl refl))
+      ⨾ kept 20 (may-text 20 9 refl (form-of 20 refl))
       ⨾ kept 21 (and-both (told-form (value 21) told-kept .0) (told-form (value 21) told-kept .1), told-back (value 21) told-kept)
       ⨾ none 22 refl refl
       ⨾ none 23 refl refl

@@ -17,7 +17,8 @@ use Rattle.text.specs.declared.Text.{Text}
 use Rattle.text.proofs.Laws.{and-left, and-right, and-both, begins-is, begins-append, text-back, in-form-facts, length-contents}
 use Rattle.digits.specs.Numerals.{digits}
 use Rattle.forms.specs.Forms.{isCode, wordAt, isWord}
-use Rattle.trade.specs.Narrative.{services, serviceIn, hasPeriod, periodIn, behindPeriod, hasReason, reasonIn, goodPeriod, goodReason, isNarrative, serviceOf, periodOf}
+use Rattle.forms.specs.Narrative.{services, serviceIn, hasPeriod, periodIn, behindPeriod, hasReason, reasonIn, goodPeriod, goodReason, isNarrative}
+use Rattle.trade.specs.Narrative.{serviceOf, periodOf}
 use Rattle.trade.specs.declared.Service.{Service}
 use Rattle.trade.specs.declared.Period.{Period}
 use Rattle.kinds.specs.Kinds.{present}

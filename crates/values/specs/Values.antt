@@ -11,7 +11,7 @@ use Rattle.text.specs.declared.Text.{Text}
 use Rattle.digits.specs.Numerals.{digits}
 use Rattle.amount.specs.Amounts.{amountText, tidy}
 use Rattle.calendar.specs.Dates.{dateText, momentText}
-use Rattle.trade.specs.Narrative.{services}
+use Rattle.forms.specs.Narrative.{services}
 use Rattle.trade.specs.Records.{kinds, sides}
 use Rattle.trade.specs.declared.Kind.{Kind}
 use Rattle.trade.specs.declared.Side.{Side}

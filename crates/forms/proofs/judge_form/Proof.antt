@@ -8,7 +8,7 @@ use Rattle.amount.specs.Amounts.{amountNumber}
 use Rattle.calendar.specs.Dates.{dateNumber, momentNumber}
 use Rattle.forms.specs.Forms.{unless, formNumber}
 use Rattle.forms.specs.Slots.{formOf}
-use Rattle.forms.proofs.Turns.{words-number, past-five, no-form}
+use Rattle.forms.proofs.Turns.{words-number, past-six, no-form}
 use borrow.Author.Needs.{needs}
 use Rattle.forms.proofs.judge_form.Statement.{statement}
 use Rattle.forms.proofs.judge_form.Tie as tie
@@ -82,6 +82,12 @@ read-requires-3 c κs = search needs
 number-requires-3 : tie.Need-number-requires-3
 number-requires-3 c κs = search needs
 
+is-narrative-requires : tie.Need-is-narrative-requires
+is-narrative-requires c κs = search needs
+
+unless-requires-4 : tie.Need-unless-requires-4
+unless-requires-4 c κs = search needs
+
 returns : tie.Need-returns
 unfolding formOf formNumber
 returns c = rw (c .before .match .keys1) (c .unless .ensures)
@@ -115,9 +121,13 @@ returns-6 c = rw (c .before .before .match .keys6) (c .number3 .ensures ∙ ap m
 
 returns-7 : tie.Need-returns-7
 unfolding formOf formNumber
-returns-7 c =
+returns-7 c = rw (c .before .before .match .keys7) (c .unless4 .ensures ∙ ap unless (c .before .is-narrative .ensures))
+
+returns-8 : tie.Need-returns-8
+unfolding formOf formNumber
+returns-8 c =
     let r = c .match .rest in
-    no-form _ _ _ _ _ (past-five _ (r .0 .0 .0 .0 .0 .1) (r .0 .0 .0 .0 .1) (r .0 .0 .0 .1) (r .0 .0 .1) (r .0 .1) (r .1))
+    no-form _ _ _ _ _ (past-six _ (r .0 .0 .0 .0 .0 .0 .1) (r .0 .0 .0 .0 .0 .1) (r .0 .0 .0 .0 .1) (r .0 .0 .0 .1) (r .0 .0 .1) (r .0 .1) (r .1))
 
 pub judge-form-spec : {M : Type 1} → statement M
 judge-form-spec =
@@ -144,10 +154,13 @@ judge-form-spec =
     number-requires-2
     read-requires-3
     number-requires-3
+    is-narrative-requires
+    unless-requires-4
     returns
     returns-2
     returns-3
     returns-4
     returns-5
     returns-6
-    returns-7)
+    returns-7
+    returns-8)

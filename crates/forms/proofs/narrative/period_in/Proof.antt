@@ -1,8 +1,8 @@
--- `trade::narrative::period_in` meets its contract. Assumes nothing.
-use Rattle.trade.proofs.Turns.{period-at, no-period}
+-- `forms::narrative::period_in` meets its contract. Assumes nothing.
+use Rattle.forms.proofs.Turns.{period-at, no-period}
 use borrow.Author.Needs.{needs}
-use Rattle.trade.proofs.narrative.period_in.Statement.{statement}
-use Rattle.trade.proofs.narrative.period_in.Tie as tie
+use Rattle.forms.proofs.narrative.period_in.Statement.{statement}
+use Rattle.forms.proofs.narrative.period_in.Tie as tie
 
 shared-slice-read-result : tie.Need-shared-slice-read-result
 shared-slice-read-result c = search needs

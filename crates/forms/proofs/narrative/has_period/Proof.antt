@@ -1,10 +1,10 @@
--- `trade::narrative::has_period` meets its contract. Assumes nothing.
+-- `forms::narrative::has_period` meets its contract. Assumes nothing.
 use mathlib.Core.Path.{_∙_}
 use Rattle.text.specs.Bytes.{bytes}
-use Rattle.trade.specs.Narrative.{hasPeriod}
+use Rattle.forms.specs.Narrative.{hasPeriod}
 use borrow.Author.Needs.{needs}
-use Rattle.trade.proofs.narrative.has_period.Statement.{statement}
-use Rattle.trade.proofs.narrative.has_period.Tie as tie
+use Rattle.forms.proofs.narrative.has_period.Statement.{statement}
+use Rattle.forms.proofs.narrative.has_period.Tie as tie
 
 from-requires : tie.Need-from-requires
 from-requires c κs = search needs

@@ -1,11 +1,11 @@
--- `trade::narrative::service_in` meets its contract. Assumes nothing.
+-- `forms::narrative::service_in` meets its contract. Assumes nothing.
 use denote.Ref.{now}
 use mathlib.Core.Path.{sym}
 use lib.Seq.{length-take-le}
-use Rattle.trade.proofs.Turns.{short-word, whole-word}
+use Rattle.forms.proofs.Turns.{short-word, whole-word}
 use borrow.Author.Needs.{needs}
-use Rattle.trade.proofs.narrative.service_in.Statement.{statement}
-use Rattle.trade.proofs.narrative.service_in.Tie as tie
+use Rattle.forms.proofs.narrative.service_in.Statement.{statement}
+use Rattle.forms.proofs.narrative.service_in.Tie as tie
 
 from-requires : tie.Need-from-requires
 from-requires c κs = search needs

@@ -1,11 +1,11 @@
--- `trade::narrative::from` meets its contract. Assumes nothing.
+-- `forms::narrative::from` meets its contract. Assumes nothing.
 use denote.Ref.{now}
-use Rattle.trade.proofs.Turns.{none-left}
+use Rattle.forms.proofs.Turns.{none-left}
 use mathlib.Core.Path.{refl}
 use Rattle.text.proofs.Laws.{rest-of}
 use borrow.Author.Needs.{needs}
-use Rattle.trade.proofs.narrative.from.Statement.{statement}
-use Rattle.trade.proofs.narrative.from.Tie as tie
+use Rattle.forms.proofs.narrative.from.Statement.{statement}
+use Rattle.forms.proofs.narrative.from.Tie as tie
 
 slice-aggregate-result : tie.Need-slice-aggregate-result
 slice-aggregate-result c = search needs

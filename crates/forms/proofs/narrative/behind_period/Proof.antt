@@ -1,8 +1,8 @@
--- `trade::narrative::behind_period` meets its contract. Assumes nothing.
-use Rattle.trade.specs.Narrative.{behindPeriod}
+-- `forms::narrative::behind_period` meets its contract. Assumes nothing.
+use Rattle.forms.specs.Narrative.{behindPeriod}
 use borrow.Author.Needs.{needs}
-use Rattle.trade.proofs.narrative.behind_period.Statement.{statement}
-use Rattle.trade.proofs.narrative.behind_period.Tie as tie
+use Rattle.forms.proofs.narrative.behind_period.Statement.{statement}
+use Rattle.forms.proofs.narrative.behind_period.Tie as tie
 
 has-period-requires : tie.Need-has-period-requires
 has-period-requires c κs = search needs

@@ -1,8 +1,8 @@
--- `trade::narrative::good_reason` meets its contract. Assumes nothing.
-use Rattle.trade.specs.Narrative.{goodReason}
+-- `forms::narrative::good_reason` meets its contract. Assumes nothing.
+use Rattle.forms.specs.Narrative.{goodReason}
 use borrow.Author.Needs.{needs}
-use Rattle.trade.proofs.narrative.good_reason.Statement.{statement}
-use Rattle.trade.proofs.narrative.good_reason.Tie as tie
+use Rattle.forms.proofs.narrative.good_reason.Statement.{statement}
+use Rattle.forms.proofs.narrative.good_reason.Tie as tie
 
 has-reason-requires : tie.Need-has-reason-requires
 has-reason-requires c κs = search needs

@@ -1,8 +1,8 @@
--- `trade::narrative::reason_in` meets its contract. Assumes nothing.
-use Rattle.trade.specs.Narrative.{reasonIn}
+-- `forms::narrative::reason_in` meets its contract. Assumes nothing.
+use Rattle.forms.specs.Narrative.{reasonIn}
 use borrow.Author.Needs.{needs}
-use Rattle.trade.proofs.narrative.reason_in.Statement.{statement}
-use Rattle.trade.proofs.narrative.reason_in.Tie as tie
+use Rattle.forms.proofs.narrative.reason_in.Statement.{statement}
+use Rattle.forms.proofs.narrative.reason_in.Tie as tie
 
 has-reason-requires : tie.Need-has-reason-requires
 has-reason-requires c κs = search needs

@@ -1,10 +1,10 @@
--- `trade::narrative::has_reason` meets its contract. Assumes nothing.
+-- `forms::narrative::has_reason` meets its contract. Assumes nothing.
 use mathlib.Core.Path.{_∙_}
 use Rattle.text.specs.Bytes.{bytes}
-use Rattle.trade.specs.Narrative.{hasReason}
+use Rattle.forms.specs.Narrative.{hasReason}
 use borrow.Author.Needs.{needs}
-use Rattle.trade.proofs.narrative.has_reason.Statement.{statement}
-use Rattle.trade.proofs.narrative.has_reason.Tie as tie
+use Rattle.forms.proofs.narrative.has_reason.Statement.{statement}
+use Rattle.forms.proofs.narrative.has_reason.Tie as tie
 
 behind-period-requires : tie.Need-behind-period-requires
 behind-period-requires c κs = search needs

@@ -1,9 +1,9 @@
--- `trade::narrative::good_period` meets its contract. Assumes nothing.
+-- `forms::narrative::good_period` meets its contract. Assumes nothing.
 use Rattle.text.specs.Classes.{inClass}
-use Rattle.trade.specs.Narrative.{goodPeriod}
+use Rattle.forms.specs.Narrative.{goodPeriod}
 use borrow.Author.Needs.{needs}
-use Rattle.trade.proofs.narrative.good_period.Statement.{statement}
-use Rattle.trade.proofs.narrative.good_period.Tie as tie
+use Rattle.forms.proofs.narrative.good_period.Statement.{statement}
+use Rattle.forms.proofs.narrative.good_period.Tie as tie
 
 has-period-requires : tie.Need-has-period-requires
 has-period-requires c κs = search needs
