@@ -25,15 +25,15 @@ use Rattle.sheets.proofs.Checks.{full}
 use Rattle.sheets.proofs.Accepts.{reads}
 use Rattle.sheets.proofs.Cuts.{cuts}
 use Rattle.sheets.proofs.Once.{inside}
-use Rattle.table.specs.Table.{table}
+use Rattle.table.specs.Table.{table, slotOf}
 use Rattle.table.specs.Tree.{tree}
-use Rattle.table.specs.Values.{valuesPass}
+use Rattle.walk.specs.Walk.{valuesPass, bodyPass, takenIn as takenOf}
 use Rattle.table.proofs.Trees.{table-is, good, is-apart, ends-at}
 use Rattle.trade.specs.Records.{tradeOf}
 use Rattle.trade.specs.declared.Trade.{Trade}
 use Rattle.kinds.specs.Kinds.{when, recordPass, kindsPass}
 use Rattle.values.proofs.Laws.{same-values}
-use Rattle.mt515.specs.Body.{lineOf, headerPass, bodyOf, bodyPass, takenIn as takenOf, valueIn as valueAt}
+use Rattle.mt515.specs.Body.{lineOf, headerPass, bodyOf, valueIn as valueAt}
 use Rattle.mt515.specs.Reading.{reading, verdictOf, readOf}
 use Rattle.demands.specs.Lawful.{Valued, saidIn, Lawful}
 use Rattle.demands.proofs.Joins.{Whole, whole-lines}
@@ -72,7 +72,7 @@ sound rows here seen n (l ∷ ls) =
     let step = stepOf rows here seen l in
     sound-behind n l step (runOf rows (step .place) (marked seen step) (suc n) ls) (sound rows (step .place) (marked seen step) (suc n) ls)
 
-all-taken : (run : Run) → Sound run → bodyPass run .number ≡ 0 → (ts : List Taken) × (run ≡ taken ts) × (valuesPass ts .number ≡ 0)
+all-taken : (run : Run) → Sound run → bodyPass slotOf run .number ≡ 0 → (ts : List Taken) × (run ≡ taken ts) × (valuesPass slotOf ts .number ≡ 0)
 unfolding Sound bodyPass refused
 all-taken (refusedAt k n) h z = absurd (true≢false (rw z at h))
 all-taken (taken ts) h z = (ts, refl, z)
@@ -137,7 +137,7 @@ module _ (m : List ℕ) (es : List Entry) (l : Sheet tree es) where
     unfolding takenOf
     body-kinds = rw b kinds-said
 
-    body-values : bodyPass (bodyOf m) ≡ valuesPass (takenIn 5 es)
+    body-values : bodyPass slotOf (bodyOf m) ≡ valuesPass slotOf (takenIn 5 es)
     unfolding bodyPass
     body-values = rw b
 
@@ -170,8 +170,8 @@ accepted-line m z =
     let (t, z1) = then-zero (linesPass m) _ z in
     let (h, z2) = then-zero (headerPass m) _ z1 in
     let (n, z3) = then-zero (nestPass m) _ z2 in
-    let (b, k) = then-zero (bodyPass (bodyOf m)) _ z3 in
-    ap (λ (v : Verdict). v .line) (then-next (linesPass m) _ t ∙ then-next (headerPass m) _ h ∙ then-next (nestPass m) _ n ∙ then-next (bodyPass (bodyOf m)) _ b)
+    let (b, k) = then-zero (bodyPass slotOf (bodyOf m)) _ z3 in
+    ap (λ (v : Verdict). v .line) (then-next (linesPass m) _ t ∙ then-next (headerPass m) _ h ∙ then-next (nestPass m) _ n ∙ then-next (bodyPass slotOf (bodyOf m)) _ b)
     ∙ kinds-line _ _
 
 -- a message is accepted exactly when it is lawful
@@ -181,7 +181,7 @@ accepted-lawful m z =
     let (t, z1) = then-zero (linesPass m) _ z in
     let (h, z2) = then-zero (headerPass m) _ z1 in
     let (n, z3) = then-zero (nestPass m) _ z2 in
-    let (b, k) = then-zero (bodyPass (bodyOf m)) _ z3 in
+    let (b, k) = then-zero (bodyPass slotOf (bodyOf m)) _ z3 in
     let (ts, e, v) = all-taken (bodyOf m) (sound table _ _ 5 (drop 4 (linesOf m))) b in
     let c = cut m t h in
     let (es, q, r, l) = cuts tree (bytes "-") (c .early) 5 ts good ends-at (rw (table-is, ← (c .body)) e) in
@@ -205,5 +205,5 @@ lawful-accepted m w =
     then-both (linesPass m) _ (w .text)
     (then-both (headerPass m) _ (w .header)
     (then-both (nestPass m) _ (rw (w .lines) (ap number (sheet-nests l (sheet-full es l (w .valued)))))
-    (then-both (bodyPass (bodyOf m)) _ (ap number (body-values m es l b ∙ values-pass es 5 (w .valued)))
+    (then-both (bodyPass slotOf (bodyOf m)) _ (ap number (body-values m es l b ∙ values-pass es 5 (w .valued)))
     (ap number (body-kinds m es l b) ∙ w .kinds))))

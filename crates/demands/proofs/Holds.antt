@@ -14,7 +14,7 @@ use borrow.Author.Tests.{eqb-true, eqb-false, ne-eqb, not-true, leb-true}
 use Rattle.text.specs.Bytes.{bytes, begins, same}
 use Rattle.text.specs.Classes.{isBetween}
 use Rattle.text.proofs.Laws.{and-left, and-right, begins-is, same-eq}
-use Rattle.forms.specs.Forms.{unless, valueNumber, isCode}
+use Rattle.forms.specs.Forms.{valueNumber, isCode}
 use Rattle.lines.specs.Verdicts.{refused, pass}
 use Rattle.lines.specs.declared.Verdict.{Verdict}
 use Rattle.trade.specs.Records.{kindIn}
@@ -26,9 +26,8 @@ use Rattle.sheets.proofs.Checks.{slotsOf, mustSlots, firstSlots}
 use Rattle.sheets.proofs.Once.{slotsHeld}
 use Rattle.sheets.proofs.Order.{value-absent}
 use Rattle.sheets.proofs.Musts.{musts}
-use Rattle.table.specs.Table.{slotOf, fixedOf}
+use Rattle.table.specs.Table.{fixedOf, numberOf}
 use Rattle.table.specs.Tree.{general, pool, details, tree}
-use Rattle.table.specs.Values.{numberOf}
 use Rattle.values.specs.Values.{optional}
 use Rattle.values.proofs.Laws.{Filled, Held}
 use Rattle.mt515.specs.Body.{lineOf, headerVerdict, headerPass, headerValue}

@@ -29,9 +29,8 @@ use Rattle.sheets.proofs.Checks.{full, mustSlots, firstSlots}
 use Rattle.sheets.proofs.Once.{slotsHeld}
 use Rattle.sheets.proofs.Order.{Missing, plain-behind, value-absent}
 use Rattle.sheets.proofs.Musts.{Turned, TurnedFields, TurnedMembers, TurnedTree, turned, musts}
-use Rattle.table.specs.Table.{slots, slotOf, fixedOf}
+use Rattle.table.specs.Table.{slots, slotOf, fixedOf, numberOf}
 use Rattle.table.specs.Tree.{link, party, general, pool, details, tree}
-use Rattle.table.specs.Values.{numberOf}
 use Rattle.table.proofs.Trees.{is-tellable, is-sole}
 use Rattle.values.specs.Values.{values, valueOf, isAny, optional, tidied}
 use Rattle.values.proofs.Laws.{named, lined, Held, values-back, number-form}

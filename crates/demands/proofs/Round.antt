@@ -28,9 +28,8 @@ use Rattle.sheets.proofs.Checks.{slotsOf, memberSlots, ownSlots, fieldSlots, wi
 use Rattle.sheets.proofs.Emits.{emits, values, Fits, fits-filled}
 use Rattle.sheets.proofs.Once.{slotsHeld, inside}
 use Rattle.sheets.proofs.Solid.{full-filled}
-use Rattle.table.specs.Table.{slots, slotOf, fixedOf}
+use Rattle.table.specs.Table.{slots, slotOf, fixedOf, numberOf}
 use Rattle.table.specs.Tree.{general, pool, details, tree}
-use Rattle.table.specs.Values.{numberOf}
 use Rattle.table.proofs.Trees.{is-once}
 use Rattle.values.specs.Values.{values as valuesIn, valueOf, isAny, optional}
 use Rattle.values.specs.Writable.{inForm}

@@ -23,33 +23,33 @@ use Rattle.sheets.proofs.Once.{slotsHeld, Once, inside, outside, comes-once}
 use Rattle.sheets.proofs.Order.{value-absent}
 use Rattle.table.proofs.Trees.{is-sole}
 use Rattle.mt515.specs.Body.{headerValue, valueIn as valueAt}
-use Rattle.table.specs.Table.{slots, slotOf, fixedOf}
+use Rattle.table.specs.Table.{slots, slotOf, fixedOf, numberOf}
 use Rattle.table.specs.Tree.{general, pool, details, tree}
-use Rattle.table.specs.Values.{numberOf, valueVerdict, valuesPass, valueFrom}
+use Rattle.walk.specs.Walk.{valueVerdict, valuesPass, valueFrom}
 use Rattle.demands.specs.Lawful.{Valued, saidIn}
 
 -- ---- 10, 11 and 12
 
-pub values-pass : (es : List Entry) (n : ℕ) → Valued es → valuesPass (takenIn n es) ≡ pass
-unfolding Valued takenIn valuesPass valueVerdict then pass refused
+pub values-pass : (es : List Entry) (n : ℕ) → Valued es → valuesPass slotOf (takenIn n es) ≡ pass
+unfolding Valued takenIn valuesPass valueVerdict numberOf then pass refused
 values-pass [] n h = refl
 values-pass (edge o ∷ es) n h = values-pass es (suc n) h
 values-pass (held s k v ∷ es) n h = rw (h .0) (values-pass es (suc n) (h .1))
 
-verdict-zero : (s n : ℕ) (v : List ℕ) → valueVerdict s n v .number ≡ 0 → numberOf s v ≡ 0
-unfolding valueVerdict pass refused
+verdict-zero : (s n : ℕ) (v : List ℕ) → valueVerdict slotOf (record { slot = s; line = n; value = v }) .number ≡ 0 → numberOf s v ≡ 0
+unfolding valueVerdict numberOf pass refused
 verdict-zero s n v h = on (eqb (numberOf s v) 0) refl h
   where
     on : (b : Bool) → eqb (numberOf s v) 0 ≡ b → cond b pass (refused (numberOf s v) n) .number ≡ 0 → numberOf s v ≡ 0
     on true e q = eqb-true (numberOf s v) 0 e
     on false e q = q
 
-pub valued : (es : List Entry) (n : ℕ) → valuesPass (takenIn n es) .number ≡ 0 → Valued es
+pub valued : (es : List Entry) (n : ℕ) → valuesPass slotOf (takenIn n es) .number ≡ 0 → Valued es
 unfolding Valued takenIn valuesPass
 valued [] n h = tt
 valued (edge o ∷ es) n h = valued es (suc n) h
 valued (held s k v ∷ es) n h =
-    let (a, b) = then-zero (valueVerdict s n v) (valuesPass (takenIn (suc n) es)) h in
+    let (a, b) = then-zero (valueVerdict slotOf (record { slot = s; line = n; value = v })) (valuesPass slotOf (takenIn (suc n) es)) h in
     (verdict-zero s n v a, valued es (suc n) b)
 
 -- ---- no value that has its form is empty
@@ -80,7 +80,7 @@ all-full (held s k (b ∷ v) ∷ es) f h = all-full es (λ x e. f x (or-two (eqb
 -- ---- a value among the lines that were taken
 
 value-from : (slot : ℕ) (es : List Entry) (n : ℕ) (d : List ℕ) → Once es
-    → valueFrom d slot (takenIn n es) ≡ cond (has (slotsHeld es) slot) (drop (length (fixedOf slot)) (valueIn es slot)) d
+    → valueFrom slotOf d slot (takenIn n es) ≡ cond (has (slotsHeld es) slot) (drop (length (fixedOf slot)) (valueIn es slot)) d
 unfolding valueFrom takenIn slotsHeld has valueIn Once
 value-from slot [] n d h = refl
 value-from slot (edge o ∷ es) n d h = value-from slot es (suc n) d h

@@ -10,9 +10,8 @@ use lib.ListN.{length, drop}
 use Rattle.lines.specs.Lines.{linesOf, linesPass}
 use Rattle.sheets.specs.Sheets.{Entry, edge, held, linesIn, Sheet}
 use Rattle.sheets.specs.Filled.{valueIn}
-use Rattle.table.specs.Table.{fixedOf}
+use Rattle.table.specs.Table.{fixedOf, numberOf}
 use Rattle.table.specs.Tree.{tree}
-use Rattle.table.specs.Values.{numberOf}
 use Rattle.trade.specs.Records.{tradeOf}
 use Rattle.kinds.specs.Kinds.{kindsPass}
 use Rattle.mt515.specs.Body.{headerPass, headerValue}

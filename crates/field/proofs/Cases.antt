@@ -11,7 +11,8 @@ use Rattle.text.specs.Classes.{isBetween}
 use Rattle.lines.specs.Lines.{inFront, cutLines, bare, linesOf, lineAt, startBehind, endOf}
 use Rattle.layout.specs.Layout.{Taken, fits, isSeen, lacks, beneath, against, look, onward, scan, stepOf, withTaken, marked, behind, runOf, layoutOf}
 use Rattle.table.specs.Table.{table, slots, slotOf}
-use Rattle.mt515.specs.Body.{bodyOf, takenIn}
+use Rattle.walk.specs.Walk.{takenIn}
+use Rattle.mt515.specs.Body.{bodyOf}
 use Rattle.mt515.specs.Cases.{b, ended}
 use Rattle.mt515.specs.Reading.{readOf}
 use Rattle.mt515.specs.declared.Reading.{Reading}

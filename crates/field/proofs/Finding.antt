@@ -29,10 +29,11 @@ use Rattle.sheets.proofs.Once.{slotsHeld}
 use Rattle.sheets.proofs.Musts.{musts, come-held}
 use Rattle.table.specs.Table.{table, fixedOf}
 use Rattle.table.specs.Tree.{tree, general, pool, details}
-use Rattle.mt515.specs.Body.{lineOf, takenIn}
+use Rattle.walk.specs.Walk.{takenIn}
+use Rattle.mt515.specs.Body.{lineOf}
 use Rattle.mt515.specs.Reading.{readOf}
 use Rattle.mt515.proofs.Heads.{lined, between-is}
-use Rattle.mt515.proofs.Steps.{to-end}
+use Rattle.walk.proofs.Laws.{to-end}
 use Rattle.demands.specs.Lawful.{saidIn, Lawful}
 use Rattle.demands.proofs.Holds.{valued-at, not-header, no-length}
 use Rattle.demands.proofs.Accepting.{body-taken}

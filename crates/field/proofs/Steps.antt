@@ -1,7 +1,7 @@
 -- The mathematics of the search, over plain lists: what is kept at each line says, with the lines still ahead, which line is taken
 -- for the slot.
 -- Assumes nothing.
-use Prim.Native.Nat.{ℕ, zero, suc, _+_, _-_, _≤_, _<_}
+use Prim.Native.Nat.{ℕ, suc, _+_, _-_, _≤_, _<_}
 use mathlib.Core.Path.{_≡_, refl, sym, ap, _∙_}
 use mathlib.Core.Bool.{Bool, true, false, _&&_, cond, true≢false}
 use mathlib.Core.List.{List, [], _∷_}
@@ -21,9 +21,9 @@ use Rattle.layout.specs.declared.Place.{Place}
 use Rattle.layout.specs.declared.Step.{Step}
 use Rattle.layout.proofs.Laws.{run-next, takes-within}
 use Rattle.sheets.specs.Sheets.{Entry, edge, held, takenIn as takenOf}
-use Rattle.table.specs.Table.{table}
-use Rattle.table.specs.Values.{numberOf}
-use Rattle.mt515.specs.Body.{bodyOf, takenIn}
+use Rattle.table.specs.Table.{table, numberOf}
+use Rattle.walk.specs.Walk.{takenIn}
+use Rattle.mt515.specs.Body.{bodyOf}
 use Rattle.mt515.specs.Reading.{readOf}
 use Rattle.mt515.specs.declared.Reading.{Reading}
 use Rattle.demands.specs.Lawful.{Valued}

@@ -16,8 +16,7 @@ use Rattle.amount.specs.Amounts.{amountRead, isAmount, whole}
 use Rattle.calendar.specs.Dates.{dateRead, dateFrom, momentRead, momentFrom}
 use Rattle.forms.specs.Forms.{valueNumber, formNumber, unless, isCode, isWord, wordAt}
 use Rattle.forms.specs.Narrative.{isNarrative}
-use Rattle.table.specs.Table.{slots, slotOf, fixedOf}
-use Rattle.table.specs.Values.{numberOf}
+use Rattle.table.specs.Table.{slots, slotOf, fixedOf, numberOf}
 use Rattle.demands.proofs.Holds.{number-begins, allBelow, all-at}
 use Rattle.field.specs.Field.{frontOf}
 

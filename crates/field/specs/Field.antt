@@ -10,7 +10,8 @@ use Rattle.text.specs.Classes.{isBetween}
 use Rattle.lines.specs.Lines.{endOf}
 use Rattle.layout.specs.Layout.{Taken}
 use Rattle.table.specs.Table.{fixedOf}
-use Rattle.mt515.specs.Body.{bodyOf, takenIn}
+use Rattle.walk.specs.Walk.{takenIn}
+use Rattle.mt515.specs.Body.{bodyOf}
 use Rattle.mt515.specs.Reading.{readOf}
 use Rattle.field.specs.declared.Stretch.{Stretch}
 

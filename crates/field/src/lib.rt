@@ -6,6 +6,8 @@ ghost use mathlib.Core.Path.{_≡_};
 ghost use mathlib.Core.Bool.{true};
 ghost use Prim.Native.Nat.{_+_, _-_, _≤_, _<_, _^_};
 ghost use Rattle.lines.specs.Lines.{startBehind};
+ghost use Rattle.layout.specs.Rows.{rowsOf};
+ghost use Rattle.table.specs.Table.{table};
 ghost use Rattle.field.specs.Field.{asked, frontOf, fieldOf, placeOf};
 
 // What the caller gets back of a slot: the read's number, and where the value stands in the message.
@@ -51,9 +53,10 @@ fn value_on(slot: usize, from: usize, end: usize) -> Stretch
 }
 
 // Searches an accepted message for the line of a slot. The outer loop goes from block to block, and the inner one over the
-// lines up to a block's next edge; each is held against the table, and the line that is taken for the slot ends the search.
-fn search(message: &[u8], from: usize, wanted: usize) -> Stretch
-    requires { ⌜ (asked (now message) wanted ≡ true) × (from ≡ startBehind (now message) 4) ⌝ }
+// lines up to a block's next edge; each is held against the table, whose bytes are lent so that they are laid down once, and
+// the line that is taken for the slot ends the search.
+fn search(message: &[u8], rows: &[u8], from: usize, wanted: usize) -> Stretch
+    requires { ⌜ (asked (now message) wanted ≡ true) × (from ≡ startBehind (now message) 4) × (rowsOf (now rows) ≡ table) ⌝ }
     ensures { λ r. ⌜ r ≡ placeOf (now (message .entry)) wanted ⌝ }
 {
     let mut seen = [0u8; 32];
@@ -66,7 +69,7 @@ fn search(message: &[u8], from: usize, wanted: usize) -> Stretch
         while at < message.len() {
             let line = lines::line_at(message, at);
             let stop = line.end;
-            let step = table::step_at(here, &seen, &message[at..stop]);
+            let step = layout::next_step(rows, here, &seen, &message[at..stop]);
             let slot = step.slot;
             if slot == wanted {
                 break 'blocks value_on(slot, at + step.width, stop);
@@ -95,7 +98,7 @@ pub fn place(message: &[u8], slot: usize) -> Stretch
     if 21 < slot {
         return nowhere(0);
     }
-    search(message, lines::behind(message, 4), slot)
+    search(message, &table::TABLE, lines::behind(message, 4), slot)
 }
 
 // The value of a slot, as a part of the message; the empty part at its start where it has none.

@@ -7,7 +7,7 @@ use lib.Dec.{eqb}
 use lib.ListN.{length, take, drop, getD}
 use Rattle.text.specs.Bytes.{bytes, begins}
 use Rattle.text.specs.Classes.{isDigit}
-use Rattle.forms.specs.Codes.{isCode, wordAt, isWord}
+use Rattle.forms.specs.Codes.{isCode, isWord}
 
 abbrev pub services : List (List ℕ)
 services = bytes "SBOD" ∷ bytes "TFTD" ∷ bytes "STIP" ∷ []

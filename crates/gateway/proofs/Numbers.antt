@@ -25,8 +25,8 @@ use Rattle.layout.specs.declared.Step.{Step}
 use Rattle.layout.specs.declared.Look.{Look}
 use Rattle.layout.specs.declared.Look.the-variants.{Decided, Further}
 use Rattle.sheets.proofs.Small.{of-both}
-use Rattle.table.specs.Table.{table, slotOf, fixedOf}
-use Rattle.table.specs.Values.{numberOf, valueVerdict, valuesPass}
+use Rattle.table.specs.Table.{table, slotOf}
+use Rattle.walk.specs.Walk.{valueVerdict, valuesPass, bodyPass}
 use Rattle.forms.specs.Narrative.{isNarrative}
 use Rattle.trade.specs.declared.Trade.{Trade}
 use Rattle.kinds.specs.Kinds.{functionOf, lacksField, hasForbidden, when, recordPass, kindsPass}
@@ -35,7 +35,7 @@ use Rattle.judge.specs.Judging.{judgeOf}
 use Rattle.message.specs.Messages.{messageOf}
 use Rattle.message.specs.Plain.{plainOf}
 use Rattle.message.specs.Writing.{writeNumber}
-use Rattle.mt515.specs.Body.{lineOf, headerVerdict, headerPass, bodyOf, bodyPass}
+use Rattle.mt515.specs.Body.{lineOf, headerVerdict, headerPass, bodyOf}
 use Rattle.mt515.specs.Reading.{reading, verdictOf, readOf}
 use Rattle.plain.specs.Asking.{askVerdict, roomPass}
 use Rattle.demands.specs.Pieces.{pieceOf}
@@ -233,19 +233,19 @@ form-few moment v = moment-few (momentRead v)
 form-few narrative v = unless-few (isNarrative v)
 form-few other v = few _ _ refl
 
-number-few : (slot : ℕ) (v : List ℕ) → FewOf (numberOf slot v)
-unfolding numberOf valueNumber
+number-few : (slot : ℕ) (v : List ℕ) → FewOf (valueNumber (slotOf slot) v)
+unfolding valueNumber
 number-few slot v = either FewOf (begins (slotOf slot .fixed) v) (form-few (slotOf slot .form) (drop (length (slotOf slot .fixed)) v)) (few _ _ refl)
 
-values-few : (ts : List Taken) → Few 17 (valuesPass ts)
+values-few : (ts : List Taken) → Few 17 (valuesPass slotOf ts)
 unfolding valuesPass valueVerdict pass refused
 values-few [] = few _ _ refl
 values-few (t ∷ ts) =
-    then-few 17 (valueVerdict (t .slot) (t .line) (t .value)) (valuesPass ts)
-    (either (Few 17) (eqb (numberOf (t .slot) (t .value)) 0) (few _ _ refl) (number-few (t .slot) (t .value)))
+    then-few 17 (valueVerdict slotOf t) (valuesPass slotOf ts)
+    (either (Few 17) (eqb (valueNumber (slotOf (t .slot)) (t .value)) 0) (few _ _ refl) (number-few (t .slot) (t .value)))
     (values-few ts)
 
-body-few : (run : Run) → FewRun run → Few 17 (bodyPass run)
+body-few : (run : Run) → FewRun run → Few 17 (bodyPass slotOf run)
 unfolding bodyPass refused
 body-few (refusedAt number line) h = h
 body-few (taken ts) h = values-few ts
@@ -274,7 +274,7 @@ verdict-few m =
     then-few 17 (linesPass m) _ (lines-few m)
     (then-few 17 (headerPass m) _ (header-few (lineOf m 0) (lineOf m 1) (lineOf m 2) (lineOf m 3))
     (then-few 17 (nestPass m) _ (nest-few 5 [] (drop 4 (linesOf m)))
-    (then-few 17 (bodyPass (bodyOf m)) _ (body-few (bodyOf m) (run-few table _ _ 5 (drop 4 (linesOf m)))) (kinds-few _ _))))
+    (then-few 17 (bodyPass slotOf (bodyOf m)) _ (body-few (bodyOf m) (run-few table _ _ 5 (drop 4 (linesOf m)))) (kinds-few _ _))))
 
 judge-few : (t : Trade) → judgeOf t ≤ 20
 unfolding judgeOf

@@ -2,21 +2,28 @@
 -- Assumes nothing.
 use Prim.Native.Nat.{ℕ, _<_}
 use mathlib.Core.Path.{_≡_, refl, sym, ap, _∙_}
-use mathlib.Core.Bool.{cond}
 use mathlib.Core.List.{List}
-use lib.Dec.{T, ltb, eqb, lit<}
+use lib.Dec.{T, ltb, lit<}
 use borrow.Author.Tests.{eq-eqb, ne-eqb}
 use Rattle.lines.specs.Verdicts.{then}
 use Rattle.lines.specs.Lines.{linesPass}
 use Rattle.lines.specs.declared.Verdict.{Verdict}
 use Rattle.lines.proofs.Laws.{stop, go}
 use Rattle.blocks.specs.Blocks.{nestPass}
-use Rattle.trade.specs.Records.{partyOf, tradeOf, blankTrade}
+use Rattle.trade.specs.Records.{tradeOf, blankTrade}
 use Rattle.trade.specs.declared.Trade.{Trade}
 use Rattle.kinds.specs.Kinds.{kindsPass}
-use Rattle.mt515.specs.Body.{headerPass, bodyOf, bodyPass, takenIn, valueIn}
+use Rattle.stretches.specs.Stretches.{stretchOf}
+use Rattle.table.specs.Table.{table, slotOf}
+use Rattle.walk.specs.Walk.{bodyPass, takenIn, valueFrom, walkOf}
+use Rattle.walk.specs.declared.Body.{Body}
+use Rattle.walk.proofs.Laws.{stretch-is}
+use Rattle.mt515.specs.Body.{headerPass, bodyOf, valueIn}
 use Rattle.mt515.specs.Reading.{reading, judged, verdictOf, readOf}
+use Rattle.mt515.specs.Walks.{headOf}
 use Rattle.mt515.specs.declared.Reading.{Reading}
+use Rattle.mt515.specs.declared.header.Header.{Header}
+use Rattle.mt515.proofs.Heads.{header-kept}
 
 -- a refusal with the blank record
 abbrev pub blankly : Verdict → Reading
@@ -30,12 +37,30 @@ pub accepted-is : (v : Verdict) (t : Trade) → v .number ≡ 0 → record { num
 unfolding reading
 accepted-is v t h = rw (eq-eqb (v .number) 0 h)
 
+-- ---- the lines behind the header: the verdict of 8 to 12, and the value of each slot as a stretch of the message
+
+module _ (m : List ℕ) (head : Header) (first : head ≡ headOf m) (r : Body) (e : r ≡ walkOf table slotOf m (head .starts) (head .ends)) where
+  walked : r ≡ walkOf table slotOf m (headOf m .starts) (headOf m .ends)
+  walked = e ∙ rw first
+
+  pub body-verdict : r .verdict ≡ bodyPass slotOf (bodyOf m)
+  unfolding walkOf bodyOf
+  body-verdict = ap (λ (x : Body). x .verdict) walked
+
+  pub body-values : (s : ℕ) → s < 32 → stretchOf m (r .starts) (r .ends) s ≡ valueIn m (takenIn (bodyOf m)) s
+  unfolding bodyOf valueIn headOf
+  body-values s h =
+      stretch-is table slotOf m (headOf m .starts) (headOf m .ends) s h h r walked
+      ∙ ap (λ (v : List ℕ). valueFrom slotOf v s (takenIn (bodyOf m))) (header-kept m s h)
+
+-- ---- the passes in their order
+
 -- a record is told by the values of its slots
-same-trade : (v w : ℕ → List ℕ) → ((s : ℕ) → 0 < s → s < 32 → v s ≡ w s) → tradeOf v ≡ tradeOf w
+same-trade : (v w : ℕ → List ℕ) → ((s : ℕ) → s < 32 → v s ≡ w s) → tradeOf v ≡ tradeOf w
 unfolding tradeOf
 same-trade v w h =
-    let at : (s : ℕ) → T (ltb 0 s) → T (ltb s 32) → v s ≡ w s = λ s a b. h s (lit< a) (lit< b) in
-    rw (at 28 tt tt, at 29 tt tt, at 1 tt tt, at 3 tt tt, at 4 tt tt, at 5 tt tt, at 6 tt tt, at 7 tt tt, at 8 tt tt, at 9 tt tt, at 10 tt tt, at 11 tt tt, at 12 tt tt, at 13 tt tt, at 14 tt tt, at 15 tt tt, at 16 tt tt, at 17 tt tt, at 18 tt tt, at 19 tt tt, at 20 tt tt, at 21 tt tt)
+    let at : (s : ℕ) → T (ltb s 32) → v s ≡ w s = λ s a. h s (lit< a) in
+    rw (at 28 tt, at 29 tt, at 1 tt, at 3 tt, at 4 tt, at 5 tt, at 6 tt, at 7 tt, at 8 tt, at 9 tt, at 10 tt, at 11 tt, at 12 tt, at 13 tt, at 14 tt, at 15 tt, at 16 tt, at 17 tt, at 18 tt, at 19 tt, at 20 tt, at 21 tt)
 
 module _ (m : List ℕ) where
   values : ℕ → List ℕ
@@ -44,7 +69,7 @@ module _ (m : List ℕ) where
   last : Verdict
   last = kindsPass (values 2) (tradeOf values)
 
-  verdict-is : verdictOf m ≡ then (linesPass m) (then (headerPass m) (then (nestPass m) (then (bodyPass (bodyOf m)) last)))
+  verdict-is : verdictOf m ≡ then (linesPass m) (then (headerPass m) (then (nestPass m) (then (bodyPass slotOf (bodyOf m)) last)))
   unfolding verdictOf values last
   verdict-is = refl
 
@@ -64,20 +89,20 @@ module _ (m : List ℕ) where
         pub refused-3 : (v3 .number ≡ 0 → ⊥) → blankly v3 ≡ readOf m
         refused-3 h = decided v3 h (stop v3 (nestPass m) _ e3 h ∙ go v2 (headerPass m) _ e2 g2 ∙ go v1 (linesPass m) _ e1 g1 ∙ sym verdict-is)
 
-        module _ (g3 : v3 .number ≡ 0) (v4 : Verdict) (e4 : v4 ≡ bodyPass (bodyOf m)) where
+        module _ (g3 : v3 .number ≡ 0) (v4 : Verdict) (e4 : v4 ≡ bodyPass slotOf (bodyOf m)) where
           pub refused-4 : (v4 .number ≡ 0 → ⊥) → blankly v4 ≡ readOf m
           refused-4 h =
               decided v4 h
-              (stop v4 (bodyPass (bodyOf m)) _ e4 h ∙ go v3 (nestPass m) _ e3 g3 ∙ go v2 (headerPass m) _ e2 g2 ∙ go v1 (linesPass m) _ e1 g1 ∙ sym verdict-is)
+              (stop v4 (bodyPass slotOf (bodyOf m)) _ e4 h ∙ go v3 (nestPass m) _ e3 g3 ∙ go v2 (headerPass m) _ e2 g2 ∙ go v1 (linesPass m) _ e1 g1 ∙ sym verdict-is)
 
           -- nothing wrong up to the values: the kinds decide
-          pub judged-is : v4 .number ≡ 0 → (value : ℕ → List ℕ) → ((s : ℕ) → 0 < s → s < 32 → value s ≡ valueIn m (takenIn (bodyOf m)) s) → judged value ≡ readOf m
+          pub judged-is : v4 .number ≡ 0 → (value : ℕ → List ℕ) → ((s : ℕ) → s < 32 → value s ≡ valueIn m (takenIn (bodyOf m)) s) → judged value ≡ readOf m
           unfolding readOf judged values last
           judged-is g4 value same =
               let t : tradeOf value ≡ tradeOf values = same-trade value values same in
               let k : last ≡ verdictOf m =
-              go v4 (bodyPass (bodyOf m)) _ e4 g4 ∙ go v3 (nestPass m) _ e3 g3 ∙ go v2 (headerPass m) _ e2 g2 ∙ go v1 (linesPass m) _ e1 g1 ∙ sym verdict-is
-              in rw (same 2 (lit< tt) (lit< tt), t) (ap (λ (w : Verdict). reading w (tradeOf values)) k)
+              go v4 (bodyPass slotOf (bodyOf m)) _ e4 g4 ∙ go v3 (nestPass m) _ e3 g3 ∙ go v2 (headerPass m) _ e2 g2 ∙ go v1 (linesPass m) _ e1 g1 ∙ sym verdict-is
+              in rw (same 2 (lit< tt), t) (ap (λ (w : Verdict). reading w (tradeOf values)) k)
 
 -- ---- the kinds alone
 

@@ -1,23 +1,27 @@
--- The mathematics of the header, over plain lists: four lines one behind the other, wherever the message ends.
+-- The mathematics of the header, over plain lists: four lines one behind the other, wherever the message ends, and the stretches
+-- of the first two.
 -- Assumes nothing.
-use Prim.Native.Nat.{ℕ, zero, suc, _+_, _-_, _≤_, _<_}
+use Prim.Native.Nat.{ℕ, suc, _+_, _-_, _≤_, _<_}
 use mathlib.Core.Path.{_≡_, refl, sym, ap, _∙_}
-use mathlib.Core.Bool.{Bool, true, false, _&&_, cond}
-use mathlib.Core.List.{List, [], _∷_}
+use mathlib.Core.Bool.{Bool, true, false, cond}
+use mathlib.Core.List.{List, []}
 use native.Mathlib.Nat.{add-zero, sub-zero}
 use native.Mathlib.Omega.{arith}
-use lib.Dec.{leb, ltb}
-use lib.ListN.{length, take, drop, getD, drop-of-length-le}
-use lib.Seq.{take-nil, drop-drop, getD-drop}
-use borrow.Author.Tests.{le-leb, ltb-true, ltb-false}
+use lib.Dec.{ltb, eqb}
+use lib.ListN.{length, take, drop, getD, set, replicate, drop-of-length-le, getD-replicate}
+use lib.Seq.{take-nil, drop-drop, getD-drop, getD-set-other}
+use borrow.Author.Tests.{le-leb, ltb-true, ltb-false, eqb-true, eqb-false}
 use Rattle.text.specs.Bytes.{bytes, same, before}
 use Rattle.lines.specs.Verdicts.{refused, pass}
-use Rattle.lines.specs.Lines.{bare, linesOf, lineAt}
+use Rattle.lines.specs.Lines.{bare, linesOf, lineAt, startBehind, endOf}
+use Rattle.lines.specs.declared.Verdict.{Verdict}
 use Rattle.lines.specs.declared.Line.{Line}
-use Rattle.lines.proofs.Laws.{Located, located, lines-next, lines-none}
+use Rattle.lines.proofs.Laws.{located, lines-next, lines-none, begins}
 use Rattle.forms.specs.Forms.{isCode}
-use Rattle.stretches.specs.Stretches.{between}
-use Rattle.mt515.specs.Body.{lineOf, headerVerdict, headerPass}
+use Rattle.stretches.specs.Stretches.{between, stretchOf}
+use Rattle.mt515.specs.Body.{lineOf, headerVerdict, headerPass, headerValue}
+use Rattle.mt515.specs.Walks.{headOf}
+use Rattle.mt515.specs.declared.header.Header.{Header}
 
 -- a stretch within the message
 pub between-is : (m : List ℕ) (from to : ℕ) → from ≤ to → to ≤ length m → between m from to ≡ take (to - from) (drop from m)
@@ -118,3 +122,47 @@ four-judged m a b c d p q r t = rw (p, q, r, t)
 -- the first line from the message's start
 pub from-start : (m l : List ℕ) (e : ℕ) → take (e - 0) m ≡ l → take e m ≡ l
 from-start m l e h = rw sub-zero at h
+
+-- ---- what is kept of them
+
+pub head-is : (m : List ℕ) (v : Verdict) (first second end : ℕ) → v ≡ headerPass m → first ≡ endOf m 1 → second ≡ startBehind m 1 → end ≡ endOf m 2
+    → record { verdict = v; starts = set (replicate {A = ℕ} 32 0) 29 second; ends = set (set (replicate {A = ℕ} 32 0) 28 first) 29 end } ≡ headOf m
+unfolding headOf
+head-is m v first second end a b c d = rw (a, b, c, d)
+
+pub head-verdict : (m : List ℕ) (r : Header) → r ≡ headOf m → r .verdict ≡ headerPass m
+unfolding headOf
+head-verdict m r e = ap (λ (x : Header). x .verdict) e
+
+nothing : (m : List ℕ) → between m 0 0 ≡ []
+unfolding between
+nothing m = rw (le-leb 0 (length m) (omega arith))
+
+-- a line as a stretch
+line-between : (m : List ℕ) (k : ℕ) → between m (startBehind m k) (endOf m (suc k)) ≡ lineOf m k
+unfolding endOf
+line-between m k =
+    let b = begins m k in
+    let l = lined m k (startBehind m k) (lineAt m (startBehind m k)) refl (b .within) (b .rest) in
+    between-is m (startBehind m k) (lineAt m (startBehind m k) .end) (l .starts) (l .stops) ∙ l .here
+
+pub header-kept : (m : List ℕ) (s : ℕ) → s < 32 → stretchOf m (headOf m .starts) (headOf m .ends) s ≡ headerValue m s
+unfolding headOf stretchOf headerValue startBehind
+header-kept m s h = go (eqb s 28) (eqb s 29) refl refl
+  where
+    z : List ℕ
+    z = replicate {A = ℕ} 32 0
+
+    starts : List ℕ
+    starts = set z 29 (startBehind m 1)
+
+    ends : List ℕ
+    ends = set (set z 28 (endOf m 1)) 29 (endOf m 2)
+
+    go : (a b : Bool) → eqb s 28 ≡ a → eqb s 29 ≡ b → between m (getD starts s 0) (getD ends s 0) ≡ cond a (lineOf m 0) (cond b (lineOf m 1) [])
+    go true b p q = rw (eqb-true s 28 p) (line-between m 0)
+    go false true p q = rw (eqb-true s 29 q) (line-between m 1)
+    go false false p q =
+        let i : s ≡ 28 → ⊥ = eqb-false s 28 p in
+        let j : s ≡ 29 → ⊥ = eqb-false s 29 q in
+        rw (getD-set-other z 29 s (startBehind m 1) 0 j, getD-set-other (set z 28 (endOf m 1)) 29 s (endOf m 2) 0 j, getD-set-other z 28 s (endOf m 1) 0 i, getD-replicate {A = ℕ} 32 s 0 0 h) (nothing m)

@@ -9,9 +9,9 @@ use Rattle.lines.specs.Verdicts.{refused, pass}
 use Rattle.lines.specs.Lines.{linesOf}
 use Rattle.lines.specs.declared.Verdict.{Verdict}
 use Rattle.forms.specs.Forms.{isCode}
-use Rattle.layout.specs.Layout.{Taken, Run, refusedAt, taken, layoutOf}
-use Rattle.table.specs.Table.{table}
-use Rattle.table.specs.Values.{valuesPass, valueFrom}
+use Rattle.layout.specs.Layout.{Taken, Run, layoutOf}
+use Rattle.table.specs.Table.{table, slotOf}
+use Rattle.walk.specs.Walk.{valueFrom}
 
 -- a line of a message, counted from 0
 unfoldable pub lineOf : List ℕ → ℕ → List ℕ
@@ -35,19 +35,10 @@ headerPass m = headerVerdict (lineOf m 0) (lineOf m 1) (lineOf m 2) (lineOf m 3)
 unfoldable pub bodyOf : List ℕ → Run
 bodyOf m = layoutOf table 5 (drop 4 (linesOf m))
 
--- the first line that is refused; or, where all were taken, the first whose value is wrong
-unfoldable pub bodyPass : Run → Verdict
-bodyPass (refusedAt number line) = refused number line
-bodyPass (taken ts) = valuesPass ts
-
-unfoldable pub takenIn : Run → List Taken
-takenIn (refusedAt number line) = []
-takenIn (taken ts) = ts
-
 -- ---- the values of a message: its first two lines are the password and the sender
 
 unfoldable pub headerValue : List ℕ → ℕ → List ℕ
 headerValue m slot = cond (eqb slot 28) (lineOf m 0) (cond (eqb slot 29) (lineOf m 1) [])
 
 unfoldable pub valueIn : List ℕ → List Taken → ℕ → List ℕ
-valueIn m ts slot = valueFrom (headerValue m slot) slot ts
+valueIn m ts slot = valueFrom slotOf (headerValue m slot) slot ts

@@ -11,7 +11,9 @@ use Rattle.blocks.specs.Blocks.{nestPass}
 use Rattle.trade.specs.Records.{tradeOf, blankTrade}
 use Rattle.trade.specs.declared.Trade.{Trade}
 use Rattle.kinds.specs.Kinds.{kindsPass}
-use Rattle.mt515.specs.Body.{headerPass, bodyOf, bodyPass, takenIn, valueIn}
+use Rattle.table.specs.Table.{slotOf}
+use Rattle.walk.specs.Walk.{bodyPass, takenIn}
+use Rattle.mt515.specs.Body.{headerPass, bodyOf, valueIn}
 use Rattle.mt515.specs.declared.Reading.{Reading}
 
 -- beside a refusal stands the blank record
@@ -26,7 +28,7 @@ unfoldable pub verdictOf : List ℕ → Verdict
 verdictOf m =
     let body = bodyOf m in
     let value = valueIn m (takenIn body) in
-    then (linesPass m) (then (headerPass m) (then (nestPass m) (then (bodyPass body) (kindsPass (value 2) (tradeOf value)))))
+    then (linesPass m) (then (headerPass m) (then (nestPass m) (then (bodyPass slotOf body) (kindsPass (value 2) (tradeOf value)))))
 
 unfoldable pub readOf : List ℕ → Reading
 readOf m = reading (verdictOf m) (tradeOf (valueIn m (takenIn (bodyOf m))))

@@ -1,18 +1,15 @@
-// The header: four lines, of which the first two are kept in the record.
+// The header: four lines, of which the first two are kept, as slots 28 and 29.
 use lines::Verdict;
 ghost use mathlib.Core.Path.{_≡_};
 ghost use Rattle.lines.specs.Verdicts.{refused};
 ghost use Rattle.mt515.specs.Body.{headerVerdict};
-ghost use Rattle.mt515.specs.Walks.{Headed};
+ghost use Rattle.mt515.specs.Walks.{headOf};
 
-// What the header comes to: a verdict, the end of the first line, the start and end of the second, and the place behind all
-// four.
+// What the header comes to: a verdict, and where the password and the sender begin and end.
 pub(crate) struct Header {
     pub verdict: Verdict,
-    pub first: usize,
-    pub second: usize,
-    pub end: usize,
-    pub behind: usize,
+    pub starts: [usize; 32],
+    pub ends: [usize; 32],
 }
 
 fn wrong(line: usize) -> Verdict
@@ -23,7 +20,7 @@ fn wrong(line: usize) -> Verdict
 
 // The header of a message.
 pub(crate) fn read_header(message: &[u8]) -> Header
-    ensures { λ r. ⌜ Headed (now (message .entry)) r ⌝ }
+    ensures { λ r. ⌜ r ≡ headOf (now (message .entry)) ⌝ }
 {
     let one = lines::line_at(message, 0);
     let first = one.end;
@@ -36,19 +33,21 @@ pub(crate) fn read_header(message: &[u8]) -> Header
     let fourth = three.next;
     let four = lines::line_at(message, fourth);
     let fourth_end = four.end;
-    let behind = four.next;
     let verdict = judge(
         &message[..first],
         &message[second..end],
         &message[third..third_end],
         &message[fourth..fourth_end],
     );
+    let mut starts = [0usize; 32];
+    let mut ends = [0usize; 32];
+    ends[28] = first;
+    starts[29] = second;
+    ends[29] = end;
     Header {
         verdict,
-        first,
-        second,
-        end,
-        behind,
+        starts,
+        ends,
     }
 }
 

@@ -1,8 +1,7 @@
 // The MT515: a message is read into its record, or refused with a number and a line.
 //
-// What is right stands in specs/: Body and Reading, over the Table and Values of the crate `table`.
+// What is right stands in specs/: Body and Reading, over the table of the crate `table` and the walk of the crate `walk`.
 mod header;
-mod walk;
 
 use lines::Verdict;
 use trade::Trade;
@@ -45,22 +44,16 @@ pub fn read(message: &[u8]) -> Reading
     if blocks.number != 0 {
         return refuse(blocks);
     }
-    let body = walk::walk(
-        message,
-        &table::TABLE,
-        &table::SLOTS,
-        head.behind,
-        head.first,
-        head.second,
-        head.end,
-    );
+    let starts = head.starts;
+    let ends = head.ends;
+    let body = table::walk(message, starts, ends);
     let values = body.verdict;
     if values.number != 0 {
         return refuse(values);
     }
-    let starts = body.starts;
-    let ends = body.ends;
-    judge(message, &starts, &ends)
+    let begun = body.starts;
+    let ended = body.ends;
+    judge(message, &begun, &ended)
 }
 
 // The record of a message with nothing wrong up to its values, judged by its kind.

@@ -7,7 +7,7 @@ use mathlib.Core.Bool.{Bool, true, false}
 use mathlib.Core.List.{List, [], _∷_, map}
 use lib.ListN.{getD}
 use Rattle.text.specs.Bytes.{bytes}
-use Rattle.forms.specs.Forms.{Form, Slot, nothing, codes, words, amount, date, moment, narrative, other}
+use Rattle.forms.specs.Forms.{Form, Slot, nothing, codes, words, amount, date, moment, narrative, other, valueNumber}
 use Rattle.layout.specs.Rows.{Row, field, opens, closes, many, mark, back, ends}
 
 abbrev pub must : Bool
@@ -107,3 +107,7 @@ slotOf i = getD slots i (slot "" other)
 
 abbrev pub fixedOf : ℕ → List ℕ
 fixedOf i = slotOf i .fixed
+
+-- the number of all that follows a slot's qualifier
+unfoldable pub numberOf : ℕ → List ℕ → ℕ
+numberOf slot v = valueNumber (slotOf slot) v

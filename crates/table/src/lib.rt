@@ -1,11 +1,10 @@
 // The MT515 as bytes: the rows of its table, and the fixed text and form of each slot. The proofs hold both against
-// specs/Table; what the number of a value is stands in specs/Values.
-use layout::Place;
-use layout::Step;
+// specs/Table.
+use walk::Body;
 ghost use mathlib.Core.Path.{_≡_};
 ghost use lib.ListN.{length};
-ghost use Rattle.layout.specs.Layout.{stepOf};
-ghost use Rattle.table.specs.Table.{table, fixedOf};
+ghost use Rattle.walk.specs.Walk.{walkOf};
+ghost use Rattle.table.specs.Table.{table, slotOf, fixedOf};
 
 // Sixteen bytes a row: its kind, its slot, the length of its text, the text.
 pub const TABLE: [u8; 624] = *b"\x03\x00\x09:16R:GENL    \
@@ -82,11 +81,11 @@ pub const SLOTS: [u8; 1024] = *b"\x00\x00\x00\x00            ................\
     \x00\x00\x00\x0a/GSCC/CASH  ................\
     \x00\x00\x00\x06//APMT      ................";
 
-// What a line does at a place of the table.
-pub fn step_at(here: Place, seen: &[u8], line: &[u8]) -> Step
-    ensures { λ r. ⌜ r ≡ stepOf table here (now (seen .entry)) (now (line .entry)) ⌝ }
+// The walk over the lines behind the header of an MT515, with the places that are kept already.
+pub fn walk(message: &[u8], starts: [usize; 32], ends: [usize; 32]) -> Body
+    ensures { λ r. ⌜ r ≡ walkOf table slotOf (now (message .entry)) starts ends ⌝ }
 {
-    layout::next_step(&TABLE, here, seen, line)
+    walk::walk(message, &TABLE, &SLOTS, starts, ends)
 }
 
 // How long the fixed text of a slot is.

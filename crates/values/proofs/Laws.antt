@@ -28,8 +28,7 @@ use Rattle.trade.specs.declared.Kind.{Kind}
 use Rattle.trade.specs.declared.Side.{Side}
 use Rattle.trade.specs.declared.Trade.{Trade}
 use Rattle.kinds.specs.Kinds.{functionOf}
-use Rattle.table.specs.Table.{slots, slotOf, fixedOf}
-use Rattle.table.specs.Values.{numberOf}
+use Rattle.table.specs.Table.{slots, slotOf, fixedOf, numberOf}
 use Rattle.values.specs.Values.{kindWord, sideWord, narrative, values, valueOf, optional, tidied}
 use Rattle.values.specs.Writable.{prepForm, periodForm, reasonForm, tests, inForm}
 use Rattle.values.proofs.Fields.{Each, _⨾_, each-at, hold-at, hold-all, code-text, text-code, code-any, code-some, no-code, word-back, amount-held, date-held, moment-held, prep-back, prep-number, prep-held}

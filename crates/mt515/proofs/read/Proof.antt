@@ -1,10 +1,7 @@
 -- `mt515::read` meets its contract: the first pass that finds something wrong decides. Assumes nothing.
-use mathlib.Core.Path.{refl, _∙_}
-use Rattle.text.specs.Bytes.{bytes, parts}
-use Rattle.layout.specs.Rows.{rowOf, keyOf, firstRow, rowsOf}
-use Rattle.forms.specs.Slots.{wordsOf, formOf, slotAt}
-use Rattle.table.specs.Table.{table, slots}
-use Rattle.mt515.proofs.Chain.{refused-1, refused-2, refused-3, refused-4, judged-is}
+use mathlib.Core.Path.{_∙_}
+use Rattle.mt515.proofs.Heads.{head-verdict}
+use Rattle.mt515.proofs.Chain.{refused-1, refused-2, refused-3, refused-4, judged-is, body-verdict, body-values}
 use borrow.Author.Needs.{needs}
 use Rattle.mt515.proofs.read.Statement.{statement}
 use Rattle.mt515.proofs.read.Tie as tie
@@ -27,7 +24,7 @@ refuse-requires-2 c κs = search needs
 returns-2 : tie.Need-returns-2
 returns-2 c =
     let h = c .before .before .before .before in
-    c .refuse2 .ensures ∙ refused-2 _ _ (h .before .before .before .check .ensures) (h .before .if1 .left) _ (h .read-header .ensures .verdict) (c .before .if2 .taken)
+    c .refuse2 .ensures ∙ refused-2 _ _ (h .before .before .before .check .ensures) (h .before .if1 .left) _ (head-verdict _ _ (h .read-header .ensures)) (c .before .if2 .taken)
 
 nesting-requires : tie.Need-nesting-requires
 nesting-requires c κs = search needs
@@ -40,20 +37,10 @@ returns-3 c =
     let n = c .before .before .before in
     let h = n .before .before .before .before in
     c .refuse3 .ensures
-    ∙ refused-3 _ _ (h .before .before .before .check .ensures) (h .before .if1 .left) _ (h .read-header .ensures .verdict) (n .before .if2 .left) _ (n .nesting .ensures) (c .before .if3 .taken)
+    ∙ refused-3 _ _ (h .before .before .before .check .ensures) (h .before .if1 .left) _ (head-verdict _ _ (h .read-header .ensures)) (n .before .if2 .left) _ (n .nesting .ensures) (c .before .if3 .taken)
 
-slice-aggregate-walk : tie.Need-slice-aggregate-walk
-slice-aggregate-walk c = search needs
-
-slice-aggregate-walk-2 : tie.Need-slice-aggregate-walk-2
-slice-aggregate-walk-2 c = search needs
-
--- the bytes that are lent are the table and its slots, by computation
 walk-requires : tie.Need-walk-requires
-unfolding bytes parts rowOf keyOf firstRow rowsOf table wordsOf formOf slotAt slots
-walk-requires c κs =
-    let h = c .before .before .before .before .before .before .before .before .read-header .ensures in
-    (refl, (refl, refl), h .within, h .rest, h .first, h .second)
+walk-requires c κs = search needs
 
 refuse-requires-4 : tie.Need-refuse-requires-4
 refuse-requires-4 c κs = search needs
@@ -64,8 +51,8 @@ returns-4 c =
     let n = w .before .before .before .before .before in
     let h = n .before .before .before .before in
     c .refuse4 .ensures
-    ∙ refused-4 _ _ (h .before .before .before .check .ensures) (h .before .if1 .left) _ (h .read-header .ensures .verdict) (n .before .if2 .left) _ (n .nesting .ensures) (w .before .before .before .if3 .left) _
-    (w .walk .ensures .verdict) (c .before .if4 .taken)
+    ∙ refused-4 _ _ (h .before .before .before .check .ensures) (h .before .if1 .left) _ (head-verdict _ _ (h .read-header .ensures)) (n .before .if2 .left) _ (n .nesting .ensures) (w .before .before .before .if3 .left) _
+    (body-verdict _ _ (h .read-header .ensures) _ (w .walk .ensures)) (c .before .if4 .taken)
 
 slice-aggregate-judge : tie.Need-slice-aggregate-judge
 slice-aggregate-judge c = search needs
@@ -83,8 +70,8 @@ returns-5 c =
     let n = w .before .before .before .before .before in
     let h = n .before .before .before .before in
     c .judge .ensures
-    ∙ judged-is _ _ (h .before .before .before .check .ensures) (h .before .if1 .left) _ (h .read-header .ensures .verdict) (n .before .if2 .left) _ (n .nesting .ensures) (w .before .before .before .if3 .left) _
-    (w .walk .ensures .verdict) (e .if4 .left) _ (w .walk .ensures .values (e .if4 .left))
+    ∙ judged-is _ _ (h .before .before .before .check .ensures) (h .before .if1 .left) _ (head-verdict _ _ (h .read-header .ensures)) (n .before .if2 .left) _ (n .nesting .ensures) (w .before .before .before .if3 .left) _
+    (body-verdict _ _ (h .read-header .ensures) _ (w .walk .ensures)) (e .if4 .left) _ (body-values _ _ (h .read-header .ensures) _ (w .walk .ensures))
 
 pub read-spec : {M : Type 1} → statement M
 read-spec =
@@ -99,8 +86,6 @@ read-spec =
     nesting-requires
     refuse-requires-3
     returns-3
-    slice-aggregate-walk
-    slice-aggregate-walk-2
     walk-requires
     refuse-requires-4
     returns-4

@@ -1,9 +1,11 @@
 -- `mt515::header::read_header` meets its contract. Assumes nothing.
-use mathlib.Core.Path.{_∙_}
+use mathlib.Core.Path.{_≡_, ap, _∙_}
 use lib.ListN.{length-take}
 use native.Mathlib.Omega.{arith}
 use denote.Ref.{now}
-use Rattle.mt515.proofs.Heads.{Lined, one, two, three, four, between-is, four-judged, from-start}
+use Rattle.lines.specs.Lines.{lineAt, startBehind, endOf}
+use Rattle.lines.specs.declared.Line.{Line}
+use Rattle.mt515.proofs.Heads.{Lined, one, two, three, four, four-judged, from-start, head-is}
 use borrow.Author.Needs.{needs}
 use Rattle.mt515.proofs.header.read_header.Statement.{statement}
 use Rattle.mt515.proofs.header.read_header.Tie as tie
@@ -66,18 +68,26 @@ part-judge-end-3 c = fourth-line (c .before .before .before) .stops
 judge-requires : tie.Need-judge-requires
 judge-requires c κs = search needs
 
+array-write-ends : tie.Need-array-write-ends
+array-write-ends c = search needs
+
+array-write-starts : tie.Need-array-write-starts
+array-write-starts c = search needs
+
+array-write-ends-2 : tie.Need-array-write-ends-2
+array-write-ends-2 c = search needs
+
 returns : tie.Need-returns
+unfolding startBehind endOf
 returns c =
     let d = c .before .before .before .before .before in
-    let a = first-line d in
-    let b = second-line d in
-    record {
-      verdict = c .judge .ensures ∙ four-judged _ _ _ _ _ (from-start (now (d .before .before .before .before .before .args .message)) _ (d .before .before .before .line-at .result .end) (a .here)) (b .here) (third-line d .here) (fourth-line d .here);
-      first = between-is _ _ _ (a .starts) (a .stops) ∙ a .here;
-      second = between-is _ _ _ (b .starts) (b .stops) ∙ b .here;
-      within = fourth-line d .within;
-      rest = fourth-line d .rest;
-    }
+    let m = now (d .before .before .before .before .before .args .message) in
+    let one = d .before .before .before .line-at .ensures in
+    let next : d .before .before .before .line-at .result .next ≡ startBehind m 1 = ap (λ (x : Line). x .next) one in
+    let two : d .before .before .line-at2 .result ≡ lineAt m (startBehind m 1) = d .before .before .line-at2 .ensures ∙ ap (lineAt m) next in
+    head-is m _ _ _ _
+    (c .judge .ensures ∙ four-judged _ _ _ _ _ (from-start m _ (d .before .before .before .line-at .result .end) (first-line d .here)) (second-line d .here) (third-line d .here) (fourth-line d .here))
+    (ap (λ (x : Line). x .end) one) next (ap (λ (x : Line). x .end) two)
 
 pub read-header-spec : {M : Type 1} → statement M
 read-header-spec =
@@ -98,4 +108,7 @@ read-header-spec =
     part-judge-start-3
     part-judge-end-3
     judge-requires
+    array-write-ends
+    array-write-starts
+    array-write-ends-2
     returns)

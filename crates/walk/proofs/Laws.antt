@@ -1,0 +1,156 @@
+-- What callers cite: what stands at the places that a walk has kept is the value of each slot.
+-- Assumes nothing.
+use Prim.Native.Nat.{ℕ, zero, suc, _+_, _-_, _≤_, _<_}
+use mathlib.Core.Path.{_≡_, refl, sym, ap, _∙_}
+use mathlib.Core.Bool.{Bool, true, false, _&&_, cond}
+use mathlib.Core.List.{List, [], _∷_, head-eq-of-cons-eq, tail-eq-of-cons-eq}
+use native.Mathlib.Nat.{sub-zero, zero-sub, suc-sub-suc}
+use native.Mathlib.Omega.{arith}
+use lib.Dec.{leb, ltb, eqb}
+use lib.ListN.{length, take, drop, getD, set, replicate, length-take, length-drop, length-set, drop-of-length-le}
+use lib.Seq.{take-nil, drop-drop, getD-set-same, getD-set-other}
+use borrow.Author.Tests.{le-leb, leb-false, ltb-true, ltb-false, eqb-true, eqb-false}
+use Rattle.lines.specs.Lines.{linesOf, lineAt, startBehind, endOf}
+use Rattle.lines.proofs.Laws.{located, lines-behind, begins}
+use Rattle.stretches.specs.Stretches.{between, stretchOf}
+use Rattle.forms.specs.Forms.{Slot}
+use Rattle.layout.specs.Rows.{Row}
+use Rattle.layout.specs.Layout.{Taken, Run, refusedAt, taken, stepOf, runOf, behind, withTaken, marked, layoutOf}
+use Rattle.layout.specs.declared.Place.{Place}
+use Rattle.layout.proofs.Laws.{takes-within}
+use Rattle.walk.specs.Walk.{takenIn, valueFrom, startsOf, endsOf, walkOf}
+use Rattle.walk.specs.declared.Body.{Body}
+
+-- ---- parts of a line that runs from one place of a message to another
+
+drop-front : (k n : ℕ) (y : List ℕ) → drop k (take n y) ≡ take (n - k) (drop k y)
+drop-front zero n y = rw sub-zero
+drop-front (suc k) zero y = rw zero-sub
+drop-front (suc k) (suc n) [] = sym (take-nil (suc n - suc k))
+drop-front (suc k) (suc n) (b ∷ y) = drop-front k n y ∙ rw suc-sub-suc
+
+module _ (m : List ℕ) (at stop k : ℕ) where
+  -- what is left of the line behind some of its bytes
+  pub drop-take : drop k (take (stop - at) (drop at m)) ≡ take (stop - (at + k)) (drop (at + k) m)
+  drop-take = let n : stop - at - k ≡ stop - (at + k) = omega arith in drop-front k (stop - at) (drop at m) ∙ rw (n, drop-drop k at m)
+
+  pub to-end : at ≤ stop → stop ≤ length m → between m (at + k) stop ≡ drop k (take (stop - at) (drop at m))
+  unfolding between
+  to-end h g = go (leb (at + k) stop) refl
+    where
+      go : (t : Bool) → leb (at + k) stop ≡ t → cond (t && leb stop (length m)) (take (stop - (at + k)) (drop (at + k) m)) [] ≡ drop k (take (stop - at) (drop at m))
+      go true e = rw (le-leb stop (length m) g) (sym drop-take)
+      go false e =
+          let f : stop < at + k = leb-false (at + k) stop e in
+          let l : length (take (stop - at) (drop at m)) ≤ k = rw (length-take, length-drop) (omega arith) in
+          sym (drop-of-length-le (take (stop - at) (drop at m)) l)
+
+-- ---- the value of a line that was taken is the end of that line's text
+
+abbrev Stands : List ℕ → Taken → Type 0
+Stands m t = (j : ℕ) → between m (endOf m (t .line) - length (t .value) + j) (endOf m (t .line)) ≡ drop j (t .value)
+
+unfoldable Standing : List ℕ → List Taken → Type 0
+Standing m [] = Unit
+Standing m (t ∷ ts) = Stands m t × Standing m ts
+
+with-standing : (m : List ℕ) (t : Taken) (r : Run) → Stands m t → Standing m (takenIn r) → Standing m (takenIn (withTaken t r))
+unfolding withTaken takenIn Standing
+with-standing m t (refusedAt number line) h s = tt
+with-standing m t (taken ts) h s = (h, s)
+
+-- a choice has what both its sides have
+of-both : {A : Type 0} (P : A → Type 0) (b : Bool) {x y : A} → P x → P y → P (cond b x y)
+of-both P true f g = f
+of-both P false f g = g
+
+-- the first line from a place on, and those behind it
+record First (m : List ℕ) (k : ℕ) (l : List ℕ) (ls : List (List ℕ)) : Type 0 where
+  from : startBehind m k ≤ endOf m (suc k)
+  to : endOf m (suc k) ≤ length m
+  text : l ≡ take (endOf m (suc k) - startBehind m k) (drop (startBehind m k) m)
+  rest : ls ≡ linesOf (drop (startBehind m (suc k)) m)
+
+first : (m : List ℕ) (k : ℕ) (l : List ℕ) (ls : List (List ℕ)) → l ∷ ls ≡ linesOf (drop (startBehind m k) m) → First m k l ls
+unfolding startBehind endOf
+first m k l ls e = go (ltb (startBehind m k) (length m)) refl
+  where
+    go : (b : Bool) → ltb (startBehind m k) (length m) ≡ b → First m k l ls
+    go true t =
+        let p = located m (startBehind m k) (lineAt m (startBehind m k)) refl (ltb-true _ _ t) in
+        let q = e ∙ p .go-on in
+        record { from = p .starts; to = let a = p .ends in let b = p .within in omega arith; text = head-eq-of-cons-eq q; rest = tail-eq-of-cons-eq q }
+    go false t =
+        let none : l ∷ ls ≡ [] = e ∙ lines-behind m (startBehind m k) (ltb-false _ _ t) in
+        let z : suc (length ls) ≡ 0 = ap length none in
+        let no : ⊥ = omega arith in
+        absurd no
+
+module _ (m : List ℕ) (table : List Row) where
+  stands : (k slot w : ℕ) (l : List ℕ) (ls : List (List ℕ)) → First m k l ls → w ≤ length l → Stands m (record { slot = slot; line = suc k; value = drop w l })
+  stands k slot w l ls f h j =
+      let at : ℕ = startBehind m k in
+      let stop : ℕ = endOf m (suc k) in
+      let a = f .from in
+      let b = f .to in
+      let long : length l ≡ stop - at = ap length (f .text) ∙ length-take (stop - at) (drop at m) ∙ (let d = length-drop at m in omega arith) in
+      let v = length-drop w l in
+      let begun : stop - length (drop w l) + j ≡ at + (w + j) = omega arith in
+      rw begun (to-end m at stop (w + j) a b ∙ ap (drop (w + j)) (sym (f .text)) ∙ sym (drop-drop j w l))
+
+  stand-in : (ls : List (List ℕ)) (here : Place) (seen : List ℕ) (k : ℕ) → ls ≡ linesOf (drop (startBehind m k) m) → Standing m (takenIn (runOf table here seen (suc k) ls))
+  unfolding runOf behind takenIn Standing
+  stand-in [] here seen k e = tt
+  stand-in (l ∷ ls) here seen k e =
+      let step = stepOf table here seen l in
+      let f = first m k l ls e in
+      let ih = stand-in ls (step .place) (marked seen step) (suc k) (f .rest) in
+      let P : Run → Type 0 = λ (r : Run). Standing m (takenIn r) in
+      of-both P (eqb (step .number) 0)
+      (of-both P (eqb (step .slot) 0) ih (with-standing m _ _ (stands k (step .slot) (step .width) l ls f (takes-within table here seen l)) ih))
+      tt
+
+  standing : Standing m (takenIn (layoutOf table 5 (drop 4 (linesOf m))))
+  unfolding layoutOf
+  standing = stand-in (drop 4 (linesOf m)) (record { row = 0; back = 0 }) (replicate {A = ℕ} 32 0) 4 (sym (begins m 4 .rest))
+
+-- ---- the places that a walk has kept
+
+-- a place kept for one slot
+kept-at : (m starts ends : List ℕ) (slot x e s : ℕ) → s < length starts → s < length ends
+    → stretchOf m (set starts slot x) (set ends slot e) s ≡ cond (eqb slot s) (between m x e) (stretchOf m starts ends s)
+unfolding stretchOf
+kept-at m starts ends slot x e s l k = go (eqb slot s) refl
+  where
+    go : (t : Bool) → eqb slot s ≡ t → between m (getD (set starts slot x) s 0) (getD (set ends slot e) s 0) ≡ cond t (between m x e) (between m (getD starts s 0) (getD ends s 0))
+    go true q =
+        let i : slot ≡ s = eqb-true slot s q in
+        rw (i, getD-set-same starts s x 0 l, getD-set-same ends s e 0 k)
+    go false q =
+        let o : s ≡ slot → ⊥ = λ j. eqb-false slot s q (sym j) in
+        rw (getD-set-other starts slot s x 0 o, getD-set-other ends slot s e 0 o)
+
+module _ (slotOf : ℕ → Slot) (m : List ℕ) (s : ℕ) where
+  kept-here : (t : Taken) (starts ends : List ℕ) → Stands m t → s < length starts → s < length ends
+      → stretchOf m (set starts (t .slot) (endOf m (t .line) - length (t .value) + length (slotOf (t .slot) .fixed))) (set ends (t .slot) (endOf m (t .line))) s
+      ≡ cond (eqb (t .slot) s) (drop (length (slotOf s .fixed)) (t .value)) (stretchOf m starts ends s)
+  kept-here t starts ends h l k = kept-at m starts ends (t .slot) _ (endOf m (t .line)) s l k ∙ go (eqb (t .slot) s) refl
+    where
+      go : (b : Bool) → eqb (t .slot) s ≡ b
+          → cond b (between m (endOf m (t .line) - length (t .value) + length (slotOf (t .slot) .fixed)) (endOf m (t .line))) (stretchOf m starts ends s)
+          ≡ cond b (drop (length (slotOf s .fixed)) (t .value)) (stretchOf m starts ends s)
+      go true e = h (length (slotOf (t .slot) .fixed)) ∙ ap (λ (i : ℕ). drop (length (slotOf i .fixed)) (t .value)) (eqb-true (t .slot) s e)
+      go false e = refl
+
+  stretches-are : (ts : List Taken) (starts ends : List ℕ) → Standing m ts → s < length starts → s < length ends
+      → stretchOf m (startsOf slotOf m starts ts) (endsOf m ends ts) s ≡ valueFrom slotOf (stretchOf m starts ends s) s ts
+  unfolding startsOf endsOf valueFrom Standing
+  stretches-are [] starts ends h l k = refl
+  stretches-are (t ∷ ts) starts ends h l k =
+      stretches-are ts _ _ (h .1) (rw length-set l) (rw length-set k) ∙ ap (λ (v : List ℕ). valueFrom slotOf v s ts) (kept-here t starts ends (h .0) l k)
+
+-- where nothing was taken for a slot the places that were kept already stand for it
+pub stretch-is : (table : List Row) (slotOf : ℕ → Slot) (m starts ends : List ℕ) (s : ℕ) → s < length starts → s < length ends → (r : Body) → r ≡ walkOf table slotOf m starts ends
+    → stretchOf m (r .starts) (r .ends) s ≡ valueFrom slotOf (stretchOf m starts ends s) s (takenIn (layoutOf table 5 (drop 4 (linesOf m))))
+unfolding walkOf
+stretch-is table slotOf m starts ends s l k r e = rw e (stretches-are slotOf m s (takenIn (layoutOf table 5 (drop 4 (linesOf m)))) starts ends (standing m table) l k)

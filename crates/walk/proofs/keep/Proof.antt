@@ -1,0 +1,50 @@
+-- `walk::keep` meets its contract: a fixed text is short, so that the place behind it is one. Assumes nothing.
+use mathlib.Core.Path.{ap}
+use lib.ListN.{length}
+use native.Mathlib.Omega.{arith}
+use borrow.Author.Tests.{eq-eqb, ne-eqb}
+use Rattle.forms.proofs.Laws.{fixed-short}
+use borrow.Author.Needs.{needs}
+use Rattle.walk.proofs.keep.Statement.{statement}
+use Rattle.walk.proofs.keep.Tie as tie
+
+returns : tie.Need-returns
+returns c = (rw (eq-eqb _ _ (c .if1 .taken)), rw (eq-eqb _ _ (c .if1 .taken)))
+
+fixed-text-requires : tie.Need-fixed-text-requires
+fixed-text-requires c κs = search needs
+
+add-keep : tie.Need-add-keep
+add-keep c =
+    let s = c .before .before .before .before .before .before in
+    omega (arith, ap length (c .fixed-text .ensures), fixed-short (s .args .slots .now) (s .args .slot), s .pre)
+
+keep-requires : tie.Need-keep-requires
+keep-requires c κs = search needs
+
+keep-requires-2 : tie.Need-keep-requires-2
+keep-requires-2 c κs = search needs
+
+same-length : tie.Need-same-length
+same-length c = search needs
+
+same-length-2 : tie.Need-same-length-2
+same-length-2 c = search needs
+
+returns-2 : tie.Need-returns-2
+returns-2 c =
+    let some = c .before .before .before .before .before .before .before .before .before .if1 .left in
+    (rw (ne-eqb _ _ some, ← c .before .before .before .before .before .before .before .fixed-text .ensures) (c .before .before .before .before .before .before .keep .ensures), rw (ne-eqb _ _ some) (c .before .before .keep2 .ensures))
+
+pub keep-spec : {M : Type 1} → statement M
+keep-spec =
+    tie.close
+    (tie.spec
+    returns
+    fixed-text-requires
+    add-keep
+    keep-requires
+    keep-requires-2
+    same-length
+    same-length-2
+    returns-2)
