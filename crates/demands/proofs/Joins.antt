@@ -16,7 +16,7 @@ use Rattle.lines.specs.Verdicts.{refused, pass, then}
 use Rattle.lines.specs.Lines.{inFront, cutLines, bare, linesOf, ended, sizePass, mayStand, bytePass, endPass, linesPass}
 use Rattle.lines.proofs.Laws.{plain, Closed, passed}
 use Rattle.values.proofs.Printed.{printed}
-use Rattle.message.specs.Messages.{joined}
+use Rattle.fill.specs.Filling.{joined}
 use Rattle.sheets.proofs.Small.{or-case}
 
 -- ---- lines of 20 to 7E hex

@@ -14,7 +14,7 @@ use Rattle.text.specs.Bytes.{bytes, same, before}
 use Rattle.text.proofs.Laws.{and-left, and-right, same-refl}
 use Rattle.lines.specs.Lines.{inFront, cutLines, bare, linesOf, ended, linesPass}
 use Rattle.lines.proofs.Laws.{plain, Closed, passed}
-use Rattle.message.specs.Messages.{joined}
+use Rattle.fill.specs.Filling.{joined}
 use Rattle.sheets.proofs.Small.{of-both, drop-append}
 use Rattle.demands.specs.Pieces.{cutBehind, withoutEnding, isDash, throughDash, pieceOf, piecesIn, pieces, together, cases, Answered}
 use Rattle.demands.proofs.Joins.{lines-joined, Whole, ended-whole, some-bytes}

@@ -31,7 +31,7 @@ use Rattle.sheets.proofs.Solid.{full-filled}
 use Rattle.table.specs.Table.{slots, slotOf, fixedOf, numberOf}
 use Rattle.table.specs.Tree.{general, pool, details, tree}
 use Rattle.table.proofs.Trees.{is-once}
-use Rattle.values.specs.Values.{values as valuesIn, valueOf, isAny, optional}
+use Rattle.values.specs.Values.{values as valuesIn, valueOf, optional}
 use Rattle.values.specs.Writable.{inForm}
 use Rattle.values.proofs.Laws.{named, lined, Held, values-held, record-back, value-good, same-values}
 use Rattle.judge.specs.Judging.{judgeOf}
@@ -39,7 +39,8 @@ use Rattle.judge.proofs.Laws.{judge-zero}
 use Rattle.mt515.specs.Body.{lineOf, headerVerdict, headerPass, headerValue}
 use Rattle.mt515.specs.Reading.{verdictOf, readOf}
 use Rattle.message.proofs.Lengths.{message-most}
-use Rattle.message.specs.Messages.{joined, behindKey, headerOf, linesFor, messageOf}
+use Rattle.fill.specs.Filling.{joined}
+use Rattle.message.specs.Messages.{behindKey, headerOf, linesFor, messageOf}
 use Rattle.demands.specs.Lawful.{Valued, saidIn, Lawful}
 use Rattle.demands.proofs.Joins.{Whole, lines-joined, passes-joined}
 use Rattle.demands.proofs.Holds.{no-length, allBelow, all-at, not-header}

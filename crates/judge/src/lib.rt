@@ -18,7 +18,7 @@ pub fn judge(trade: Trade) -> u64
     if rules.number != 0 {
         return rules.number;
     }
-    if 31 < values::value_length(trade, 21) {
+    if 31 < values::narrative_length(trade) {
         return 20;
     }
     0

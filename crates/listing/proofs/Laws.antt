@@ -2,28 +2,25 @@
 -- Assumes nothing.
 use Prim.Native.Nat.{ℕ, _+_, _-_, _≤_, _<_}
 use mathlib.Core.Path.{_≡_, refl, sym, ap, _∙_}
-use mathlib.Core.Bool.{Bool, true, false, cond}
 use mathlib.Core.List.{List, [], _∷_, _++_}
-use native.Mathlib.Nat.{add-zero}
 use native.Mathlib.Omega.{arith}
 use lib.ListN.{length, take, drop, replicate, length-append, length-take, length-drop}
 use borrow.Author.Tests.{eq-eqb, ne-eqb}
 use Rattle.text.specs.Bytes.{bytes}
 use Rattle.text.specs.Texts.{contents, textOf}
-use Rattle.text.specs.Copy.{over, fits, placed, after}
+use Rattle.text.specs.Copy.{placed}
 use Rattle.text.specs.declared.Text.{Text}
-use Rattle.text.proofs.Laws.{over-nil, length-placed, placed-all, rest-of, contents-of}
+use Rattle.text.proofs.Laws.{placed-all, rest-of, contents-of}
 use Rattle.digits.specs.Numerals.{digits}
 use Rattle.digits.proofs.Laws.{length-digits}
 use Rattle.amount.specs.Amounts.{trimmed, noughts}
 use Rattle.amount.proofs.Trims.{trimmed-drop, noughts-length}
-use Rattle.trade.specs.declared.Trade.{Trade}
-use Rattle.values.specs.Values.{kindWord, values, valueOf}
-use Rattle.values.proofs.Turns.{Put, two, end-of, measured, in-front, contents-short, kind-four}
+use Rattle.trade.specs.declared.Kind.{Kind}
+use Rattle.values.specs.Values.{kindWord}
+use Rattle.values.proofs.Turns.{contents-short, kind-four}
 use Rattle.mt515.specs.declared.Reading.{Reading}
-use Rattle.message.specs.Walks.{overRun, behindRun}
-use Rattle.message.proofs.Turns.{Run, length-run}
-use Rattle.message.proofs.Walks.{flat}
+use Rattle.fill.specs.Runs.{flat}
+use Rattle.fill.proofs.Runs.{Put, Run, two, measured, in-front, length-run, whole}
 use Rattle.listing.specs.Rows.{spaced, decimal, shown, told, untold, fieldsOf, rowOf}
 use Rattle.listing.specs.Walks.{fieldsIn, partsOf}
 use Rattle.listing.specs.declared.Row.{Row}
@@ -76,28 +73,8 @@ shown-some t l n =
 
 -- ---- the kind
 
-pub kind-is : (t : Trade) (r : ℕ) (now : List ℕ) → Put (replicate {A = ℕ} 20 0) 0 (valueOf t 11) r now → take r now ≡ kindWord (t .kind)
-unfolding valueOf values
-kind-is t r now p = in-front (replicate {A = ℕ} 20 0) (kindWord (t .kind)) p (let h = kind-four (t .kind) in omega arith)
-
--- ---- parts that have room together are their join
-
-pub whole : (ss : List (List ℕ)) (buf : List ℕ) (at : ℕ) {r : ℕ} {now : List ℕ} → Run buf at ss r now → at + length (flat ss) ≤ length buf → Put buf at (flat ss) r now
-unfolding flat behindRun overRun after fits placed
-whole [] buf at p h = (p .0 ∙ nothing-after (fits buf at []), p .1 ∙ nothing-placed (fits buf at []))
-  where
-    nothing-after : (b : Bool) → at ≡ cond b (at + 0) at
-    nothing-after true = sym (add-zero at)
-    nothing-after false = refl
-
-    nothing-placed : (b : Bool) → buf ≡ cond b (over buf at []) buf
-    nothing-placed true = sym (over-nil buf at)
-    nothing-placed false = refl
-whole (s ∷ ss) buf at p h =
-    let l = length-append s (flat ss) in
-    let e = end-of buf at s {r = after buf at s} refl (omega arith) in
-    let n = length-placed buf at s in
-    two buf at s (flat ss) (refl, refl) (whole ss (placed buf at s) (after buf at s) p (omega arith)) (omega arith)
+pub kind-is : (k : Kind) (w : List ℕ) → w ≡ kindWord k → contents (textOf w) ≡ kindWord k
+kind-is k w e = rw e (contents-of (kindWord k) (let h = kind-four k in omega arith))
 
 -- ---- the seven fields in a line
 

@@ -11,7 +11,7 @@ ghost use lib.ListN.{length};
 ghost use Rattle.text.specs.Copy.{placed, after};
 ghost use Rattle.text.specs.Texts.{contents};
 ghost use Rattle.values.specs.Values.{kindWord};
-ghost use Rattle.message.specs.Walks.{overRun, behindRun};
+ghost use Rattle.fill.specs.Runs.{overRun, behindRun};
 ghost use Rattle.listing.specs.Rows.{spaced, heading, decimal, shown, fieldsOf, rowOf};
 ghost use Rattle.listing.specs.Walks.{fieldsIn, parted, partsOf};
 
@@ -46,13 +46,11 @@ fn shown(text: Text) -> Text
     text
 }
 
-// The word of a record's kind: the value of its slot 11.
 fn kind_text(trade: Trade) -> Text
     ensures { λ r. ⌜ contents r ≡ kindWord (trade .kind) ⌝ }
 {
-    let mut bytes = [0u8; 20];
-    let len = values::put_value(&mut bytes, 0, trade, 11);
-    Text { bytes, len }
+    let kind = trade.kind;
+    Text::of(&values::words::kind_word(kind))
 }
 
 // The fields of a row; of what is refused no field of the record.

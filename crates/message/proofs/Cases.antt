@@ -2,7 +2,8 @@
 -- Assumes nothing.
 use mathlib.Core.Path.{refl}
 use Rattle.message.specs.Cases.{broadest, messages, writes, Answered}
-use Rattle.message.specs.Messages.{joined, behindKey, headerOf, linesFor, messageOf}
+use Rattle.fill.specs.Filling.{joined}
+use Rattle.message.specs.Messages.{behindKey, headerOf, linesFor, messageOf}
 use Rattle.message.specs.Writing.{writeNumber, writeLength}
 use Rattle.values.specs.Values.{kindWord, sideWord, serviceWord, periodText, reasonText, narrative, values, valueOf, optional}
 use Rattle.values.specs.Writable.{prepForm, periodForm, reasonForm, tests, hold, inForm}

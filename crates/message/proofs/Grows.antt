@@ -11,7 +11,7 @@ use Rattle.text.specs.Bytes.{bytes}
 use Rattle.sheets.specs.Trees.{Field, Member, Tree, last, line, block, group}
 use Rattle.sheets.specs.Sheets.{Entry, edge, held, lineOf, linesIn}
 use Rattle.sheets.specs.Filled.{some, anyField, anyMember, anyIn, filledFields, filledMembers, filled}
-use Rattle.message.specs.Messages.{joined}
+use Rattle.fill.specs.Filling.{joined}
 
 -- the bytes of a sheet
 abbrev pub size : List Entry → ℕ

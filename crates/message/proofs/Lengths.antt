@@ -22,9 +22,10 @@ use Rattle.kinds.specs.Kinds.{present, hasDays, other, own, contra, stray, tddk
 use Rattle.kinds.proofs.Laws.{passes}
 use Rattle.sheets.specs.Sheets.{lineOf, linesIn}
 use Rattle.sheets.specs.Filled.{some, anyField, anyMember, anyIn, filledFields, filledMembers, filled}
+use Rattle.fill.specs.Filling.{joined, isAny}
 use Rattle.table.specs.Table.{slots, slotOf, fixedOf}
 use Rattle.table.specs.Tree.{general, pool, details, tree}
-use Rattle.values.specs.Values.{serviceWord, periodText, reasonText, narrative, values, valueOf, isAny, optional}
+use Rattle.values.specs.Values.{serviceWord, periodText, reasonText, narrative, values, valueOf, optional}
 use Rattle.values.specs.Writable.{periodForm, tests, inForm}
 use Rattle.values.proofs.Fields.{_⨾_}
 use Rattle.values.proofs.Narratives.{period-short, reason-short}
@@ -33,7 +34,7 @@ use Rattle.values.proofs.Laws.{test}
 use Rattle.values.proofs.Widths.{widths, value-width}
 use Rattle.judge.specs.Judging.{judgeOf}
 use Rattle.judge.proofs.Laws.{judge-zero}
-use Rattle.message.specs.Messages.{joined, behindKey, headerOf, linesFor, messageOf}
+use Rattle.message.specs.Messages.{behindKey, headerOf, linesFor, messageOf}
 use Rattle.message.proofs.Grows.{size, joined-next, grows}
 
 -- ---- how wide the values of a record may be

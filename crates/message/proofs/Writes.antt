@@ -1,100 +1,105 @@
 -- The parts that the writer puts are the message; and the answers of a write.
 -- Assumes nothing.
-use Prim.Native.Nat.{ℕ, _+_, _≤_, _<_}
-use mathlib.Core.Path.{_≡_, refl, sym, ap, _∙_}
-use mathlib.Core.Bool.{Bool, true, false, cond}
-use mathlib.Core.List.{List, [], _∷_, _++_, append-assoc, append-nil}
-use native.Mathlib.Nat.{add-zero}
+use Prim.Native.Nat.{ℕ, suc, _+_, _-_, _≤_, _<_}
+use mathlib.Core.Path.{_≡_, refl, sym, ap, fun-ext, _∙_}
+use mathlib.Core.Bool.{Bool, true, false, _&&_, cond, and-false}
+use mathlib.Core.List.{List, [], _∷_, _++_, append-assoc}
 use native.Mathlib.Omega.{arith}
-use lib.Dec.{leb}
-use lib.ListN.{length, take, length-append}
+use lib.Dec.{leb, eqb}
+use lib.ListN.{length, take, drop}
 use borrow.Author.Tests.{le-leb, ne-eqb, lt-ltb, le-ltb}
 use Rattle.text.specs.Bytes.{bytes}
 use Rattle.text.specs.Texts.{contents}
-use Rattle.text.specs.Copy.{over, fits, placed, after}
-use Rattle.text.proofs.Laws.{over-nil, length-placed, run-placed, run-after}
+use Rattle.text.specs.Copy.{fits, placed}
+use Rattle.text.proofs.Laws.{rest-of, length-placed}
+use Rattle.stretches.specs.Stretches.{stretchOf}
+use Rattle.forms.specs.Forms.{Slot}
+use Rattle.layout.specs.Rows.{rowsOf}
 use Rattle.trade.specs.declared.Trade.{Trade}
-use Rattle.sheets.specs.Trees.{tableOf}
 use Rattle.sheets.specs.Sheets.{linesIn}
 use Rattle.sheets.specs.Filled.{filled}
-use Rattle.table.specs.Table.{table, fixedOf}
+use Rattle.fill.specs.Runs.{overRun, flat}
+use Rattle.fill.specs.Filling.{joined, lent, isAny, frontOf, behindAt, filling}
+use Rattle.fill.proofs.Runs.{Put, Run, then, flat-append, measured, in-front, whole}
+use Rattle.fill.proofs.Walks.{filling-is}
+use Rattle.table.specs.Table.{table, slots, fixedOf}
 use Rattle.table.specs.Tree.{tree}
+use Rattle.table.proofs.Tables.{places as slotsIn, slots-are}
 use Rattle.table.proofs.Trees.{table-is}
-use Rattle.values.specs.Values.{valueOf}
-use Rattle.values.proofs.Turns.{Put, end-of, measured, in-front}
+use Rattle.values.specs.Values.{values, valueOf, optional}
+use Rattle.values.specs.Places.{ends}
+use Rattle.values.proofs.Places.{stretch-held}
 use Rattle.judge.specs.Judging.{judgeOf}
-use Rattle.message.specs.Messages.{joined, behindKey, headerOf, linesFor, messageOf}
-use Rattle.message.specs.Walks.{overRun, behindRun, partsOf, walk, headerParts, messageParts}
+use Rattle.message.specs.Messages.{behindKey, headerOf, linesFor, messageOf}
 use Rattle.message.specs.Writing.{writeNumber, writeLength, writingOf, writtenOver}
-use Rattle.message.proofs.Walks.{flat, flat-append, rows-out}
-use Rattle.message.proofs.Turns.{Run, length-run, absent}
-
--- ---- parts that have room together are their join
-
-run-whole : (ss : List (List ℕ)) (buf : List ℕ) (at : ℕ) → at + length (flat ss) ≤ length buf
-    → (behindRun buf at ss ≡ after buf at (flat ss)) × (overRun buf at ss ≡ placed buf at (flat ss))
-unfolding flat behindRun overRun after fits placed
-run-whole [] buf at h = (nothing-after (fits buf at []), nothing-placed (fits buf at []))
-  where
-    nothing-after : (b : Bool) → at ≡ cond b (at + 0) at
-    nothing-after true = sym (add-zero at)
-    nothing-after false = refl
-
-    nothing-placed : (b : Bool) → buf ≡ cond b (over buf at []) buf
-    nothing-placed true = sym (over-nil buf at)
-    nothing-placed false = refl
-run-whole (s ∷ ss) buf at h =
-    let l = length-append s (flat ss) in
-    let f : fits buf at (s ++ flat ss) ≡ true = le-leb (at + length (s ++ flat ss)) (length buf) h in
-    let e = end-of buf at s {r = after buf at s} refl (omega arith) in
-    let n = length-placed buf at s in
-    let ih = run-whole ss (placed buf at s) (after buf at s) (omega arith) in
-    (ih .0 ∙ run-after buf at s (flat ss) f, ih .1 ∙ run-placed buf at s (flat ss) f)
 
 -- ---- the parts of a message
 
-flat-parts : (t : Trade) (s : ℕ) → flat (partsOf t s) ≡ behindKey t s
-unfolding flat partsOf behindKey
-flat-parts t s = go (absent t s)
+-- the fixed text that is left out where nothing follows it
+left-out : (o : Bool) (f v : List ℕ) → cond (o && eqb (length v) 0) [] f ++ v ≡ cond (o && eqb (length v) 0) [] (f ++ v)
+left-out o f [] = go (o && eqb 0 0)
   where
-    go : (b : Bool) → flat (cond b [] (fixedOf s ∷ valueOf t s ∷ [])) ≡ cond b [] (fixedOf s ++ valueOf t s)
+    go : (b : Bool) → cond b [] f ++ [] ≡ cond b [] (f ++ [])
     go true = refl
-    go false = ap (λ (l : List ℕ). fixedOf s ++ l) (append-nil (valueOf t s))
+    go false = refl
+left-out o f (b ∷ v) = rw (ne-eqb (suc (length v)) 0 (λ h. let z : ⊥ = omega arith in z), and-false o)
 
-flat-rows : (t : Trade) → flat (walk (behindKey t) (partsOf t) (bytes ":16R:GENL") 0 table) ≡ joined (linesIn (filled (behindKey t) tree))
-unfolding tableOf flat walk
-flat-rows t = rw (← table-is) (rows-out (behindKey t) (partsOf t) (flat-parts t) tree (bytes ":16R:GENL") [] ∙ append-nil (joined (linesIn (filled (behindKey t) tree))))
+abbrev pub headerParts : Trade → List (List ℕ)
+headerParts t = contents (t .password) ∷ bytes "\r\n" ∷ contents (t .sender) ∷ bytes "\r\n515/000/GSCC\r\nMBSCTRRS\r\n" ∷ []
 
-flat-header : (t : Trade) (ls : List (List ℕ)) → flat (headerParts t) ++ joined ls ≡ joined (headerOf (contents (t .password)) (contents (t .sender)) ++ ls)
-unfolding flat headerParts headerOf joined bytes
-flat-header t ls =
-    let p = contents (t .password) in
-    let s = contents (t .sender) in
-    append-assoc p _ (joined ls) ∙ ap (λ (l : List ℕ). p ++ (bytes "\r\n" ++ l)) (append-assoc s _ (joined ls))
+-- by what is lent: the bytes of the table, of its slots and of those that are optional, and the values of the record
+module _ (t : Trade) (rows fixed may text from to : List ℕ) (rows-are : rowsOf rows ≡ table)
+    (fixed-are : slotsIn fixed 0 32 ≡ slots) (long : length fixed ≡ 1024) (may-are : (s : ℕ) → isAny may s ≡ optional s)
+    (held : (s : ℕ) → stretchOf text from to s ≡ valueOf t s) where
+  behind-is : (s : ℕ) → behindAt (lent fixed may text from to) s ≡ behindKey t s
+  unfolding frontOf behindKey
+  behind-is s =
+      rw (held s, may-are s, ap (λ (x : Slot). x .fixed) (slots-are fixed fixed-are long s)) (left-out (optional s) (fixedOf s) (valueOf t s))
 
-pub message-parts : (t : Trade) → flat (messageParts t) ≡ messageOf t
-unfolding messageParts messageOf linesFor
-message-parts t =
-    flat-append (headerParts t) (walk (behindKey t) (partsOf t) (bytes ":16R:GENL") 0 table)
-    ∙ rw (flat-rows t) (flat-header t (linesIn (filled (behindKey t) tree)))
+  flat-rows : flat (filling (lent fixed may text from to) rows) ≡ joined (linesIn (filled (behindKey t) tree))
+  flat-rows =
+      filling-is (lent fixed may text from to) rows tree (rows-are ∙ sym table-is)
+      ∙ ap (λ (value : ℕ → List ℕ). joined (linesIn (filled value tree))) (fun-ext behind-is)
+
+  flat-header : (ls : List (List ℕ)) → flat (headerParts t) ++ joined ls ≡ joined (headerOf (contents (t .password)) (contents (t .sender)) ++ ls)
+  unfolding flat headerParts headerOf joined bytes
+  flat-header ls =
+      let p = contents (t .password) in
+      let s = contents (t .sender) in
+      append-assoc p _ (joined ls) ∙ ap (λ (l : List ℕ). p ++ (bytes "\r\n" ++ l)) (append-assoc s _ (joined ls))
+
+  message-parts : flat (headerParts t ++ filling (lent fixed may text from to) rows) ≡ messageOf t
+  unfolding messageOf linesFor
+  message-parts =
+      flat-append (headerParts t) (filling (lent fixed may text from to) rows)
+      ∙ rw flat-rows (flat-header (linesIn (filled (behindKey t) tree)))
 
 -- put where all have room, they are the message
-module _ (t : Trade) (buf : List ℕ) {r : ℕ} {now : List ℕ} (run : Run buf 0 (messageParts t) r now) (room : length (messageOf t) ≤ length buf) where
-  put-whole : Put buf 0 (messageOf t) r now
-  put-whole =
-      let e = message-parts t in
-      let l = ap length e in
-      let w = run-whole (messageParts t) buf 0 (omega arith) in
-      (run .0 ∙ w .0 ∙ rw e, run .1 ∙ w .1 ∙ rw e)
+pub put-whole : (t : Trade) (buf rows fixed may text from to : List ℕ) {r₁ r₂ : ℕ} {b₁ b₂ : List ℕ}
+    → Run buf 0 (headerParts t) r₁ b₁ → Run b₁ r₁ (filling (lent fixed may text from to) rows) r₂ b₂ → length (messageOf t) ≤ length buf
+    → rowsOf rows ≡ table → slotsIn fixed 0 32 ≡ slots → length fixed ≡ 1024 → ((s : ℕ) → isAny may s ≡ optional s)
+    → ((s : ℕ) → stretchOf text from to s ≡ valueOf t s) → Put buf 0 (messageOf t) r₂ b₂
+put-whole t buf rows fixed may text from to p q room rows-are fixed-are long may-are held =
+    let ps = filling (lent fixed may text from to) rows in
+    let e = message-parts t rows fixed may text from to rows-are fixed-are long may-are held in
+    let l = ap length e in
+    rw (← e) (whole (headerParts t ++ ps) buf 0 (then buf 0 (headerParts t) ps p q) (omega arith))
 
+-- the values are held where all of them have room
+pub values-lent : (t : Trade) (buf text places : List ℕ) → text ≡ overRun buf 0 (values t) → places ≡ 0 ∷ ends buf 0 (values t)
+    → length (flat (values t)) ≤ length buf → (s : ℕ) → stretchOf text places (take (length places - 1) (drop 1 places)) s ≡ valueOf t s
+unfolding valueOf
+values-lent t buf text places e f h s = rw (rest-of 1 (length places) places refl, e, f) (stretch-held (values t) buf h s)
+
+module _ (t : Trade) (buf : List ℕ) {r : ℕ} {now : List ℕ} (put : Put buf 0 (messageOf t) r now) (room : length (messageOf t) ≤ length buf) where
   pub composed : r ≡ length (messageOf t)
-  composed = measured buf (messageOf t) (put-whole .0) room
+  composed = measured buf (messageOf t) (put .0) room
 
   pub message-is : take r now ≡ messageOf t
-  message-is = in-front buf (messageOf t) put-whole room
+  message-is = in-front buf (messageOf t) put room
 
   pub fits-in : r ≤ length now
-  fits-in = let c = composed in let l = ap length (run .1) ∙ length-run (messageParts t) buf 0 in omega arith
+  fits-in = let c = composed in let l = ap length (put .1) ∙ length-placed buf 0 (messageOf t) in omega arith
 
 -- ---- the answers of a write
 

@@ -1,5 +1,4 @@
 pub mod Messages
 pub mod Writing
-pub mod Walks
 pub mod Cases
 pub mod Plain

@@ -7,16 +7,12 @@ use lib.ListN.{length}
 use Rattle.text.specs.Bytes.{bytes}
 use Rattle.text.specs.Texts.{contents}
 use Rattle.trade.specs.declared.Trade.{Trade}
+use Rattle.fill.specs.Filling.{joined}
 use Rattle.sheets.specs.Sheets.{linesIn}
 use Rattle.sheets.specs.Filled.{filled}
 use Rattle.table.specs.Table.{fixedOf}
 use Rattle.table.specs.Tree.{tree}
 use Rattle.values.specs.Values.{valueOf, optional}
-
--- every line ends in CR LF
-unfoldable pub joined : List (List ℕ) → List ℕ
-joined [] = []
-joined (l ∷ ls) = l ++ (bytes "\r\n" ++ joined ls)
 
 -- all that stands behind the text of a slot, its fixed text and its value; nothing where an optional one is absent
 unfoldable pub behindKey : Trade → ℕ → List ℕ

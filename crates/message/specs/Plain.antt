@@ -10,7 +10,7 @@ use Rattle.text.specs.Bytes.{bytes, begins}
 use Rattle.lines.specs.Lines.{linesOf}
 use Rattle.amount.specs.Amounts.{tidy}
 use Rattle.sheets.specs.Plain.{Group, inOrder}
-use Rattle.message.specs.Messages.{joined}
+use Rattle.fill.specs.Filling.{joined}
 
 -- LINK blocks stand as MAST, PREV, LIST
 unfoldable pub links : Group

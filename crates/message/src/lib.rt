@@ -1,13 +1,17 @@
 // The message of a record, written into a buffer that the caller lends.
 //
-// What is right stands in specs/Messages and specs/Writing; specs/Walks serves the steps in between.
-mod parts;
-mod rows;
-
+// What is right stands in specs/Messages and specs/Writing.
+use text::Text;
 use trade::Trade;
 ghost use mathlib.Core.Path.{_≡_};
+ghost use mathlib.Core.List.{[], _∷_};
+ghost use Prim.Native.Nat.{_≤_};
 ghost use lib.ListN.{length};
-ghost use Rattle.message.specs.Walks.{overRun, behindRun, headerParts, messageParts};
+ghost use Rattle.text.specs.Bytes.{bytes};
+ghost use Rattle.text.specs.Texts.{contents};
+ghost use Rattle.text.specs.Copy.{placed, after};
+ghost use Rattle.fill.specs.Runs.{overRun, behindRun};
+ghost use Rattle.message.specs.Messages.{messageOf};
 ghost use Rattle.message.specs.Writing.{writingOf, writtenOver};
 
 // What a write answers: 0 and the length of the message, or the number of the refusal and 0.
@@ -17,21 +21,37 @@ pub struct Writing {
 }
 
 // The four lines of the header.
-fn put_header(buf: &mut [u8], trade: Trade) -> usize
-    ensures { λ r. ⌜ (r ≡ behindRun (now (buf .entry)) 0 (headerParts trade)) × (now (buf .exit) ≡ overRun (now (buf .entry)) 0 (headerParts trade)) ⌝ }
+fn put_header(buf: &mut [u8], password: Text, sender: Text) -> usize
+    ensures { λ r. ⌜ (r ≡ behindRun (now (buf .entry)) 0 (contents password ∷ bytes "\r\n" ∷ contents sender ∷ bytes "\r\n515/000/GSCC\r\nMBSCTRRS\r\n" ∷ []))
+        × (now (buf .exit) ≡ overRun (now (buf .entry)) 0 (contents password ∷ bytes "\r\n" ∷ contents sender ∷ bytes "\r\n515/000/GSCC\r\nMBSCTRRS\r\n" ∷ [])) ⌝ }
 {
-    let password = text::put_text(buf, 0, trade.password);
-    let line = text::put(buf, password, b"\r\n");
-    let sender = text::put_text(buf, line, trade.sender);
-    text::put(buf, sender, b"\r\n515/000/GSCC\r\nMBSCTRRS\r\n")
+    let first = text::put_text(buf, 0, password);
+    let line = text::put(buf, first, b"\r\n");
+    let second = text::put_text(buf, line, sender);
+    text::put(buf, second, b"\r\n515/000/GSCC\r\nMBSCTRRS\r\n")
 }
 
-// The message of a record; whole where the buffer has room for it. The table's bytes are lent, so that they are laid down once.
+// The message of a record, into a buffer that has room for it. Its values are put into a text once, and lent with the table's
+// bytes to the walk over the rows, so that neither the record nor a table is copied at each row.
 fn compose(buf: &mut [u8], trade: Trade) -> usize
-    ensures { λ r. ⌜ (r ≡ behindRun (now (buf .entry)) 0 (messageParts trade)) × (now (buf .exit) ≡ overRun (now (buf .entry)) 0 (messageParts trade)) ⌝ }
+    requires { ⌜ length (messageOf trade) ≤ length (now buf) ⌝ }
+    ensures { λ r. ⌜ (r ≡ after (now (buf .entry)) 0 (messageOf trade)) × (now (buf .exit) ≡ placed (now (buf .entry)) 0 (messageOf trade)) ⌝ }
 {
-    let at = put_header(buf, trade);
-    rows::put_rows(buf, at, &table::TABLE, &table::SLOTS, trade)
+    let mut text = [0u8; 398];
+    let mut places = [0usize; 31];
+    values::put_values(&mut text, &mut places, trade);
+    let at = put_header(buf, trade.password, trade.sender);
+    let starts: &[usize] = &places;
+    fill::put_rows(
+        buf,
+        at,
+        &table::TABLE,
+        &table::SLOTS,
+        &values::OPTIONAL,
+        &text,
+        starts,
+        &starts[1..],
+    )
 }
 
 // Writes the message of a record into a lent buffer. The record is judged first and the message composed elsewhere, so that

@@ -13,7 +13,7 @@ use lib.Seq.{take-suc, take-suc-set, take-at, take-all}
 use borrow.Author.Tests.{le-leb}
 use Rattle.text.specs.Copy.{over, fits, placed}
 use Rattle.text.proofs.Laws.{placed-all}
-use Rattle.values.proofs.Turns.{Put, two}
+use Rattle.fill.proofs.Runs.{Put, two}
 use Rattle.calendar.specs.declared.Moment.{Moment}
 use Rattle.packed.proofs.Laws.{at-most-in, at-most-out}
 use Rattle.packed.specs.Packed.{atMost, momentNumber, numberBytes, inRow}

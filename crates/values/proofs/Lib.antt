@@ -4,4 +4,5 @@ pub mod Laws
 pub mod Printed
 pub mod Widths
 pub mod Turns
+pub mod Places
 pub mod Cases

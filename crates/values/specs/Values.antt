@@ -1,9 +1,8 @@
 -- Document 01, "The slots, in order", and "Plain form, and the record": the value that a record has for each slot, as it stands
 -- behind the slot's fixed text; nothing where the record has none.
 use Prim.Native.Nat.{ℕ}
-use mathlib.Core.Bool.{Bool, false, _||_, cond}
+use mathlib.Core.Bool.{Bool, cond}
 use mathlib.Core.List.{List, [], _∷_, _++_}
-use lib.Dec.{eqb}
 use lib.ListN.{getD}
 use Rattle.text.specs.Bytes.{bytes}
 use Rattle.text.specs.Texts.{contents}
@@ -19,6 +18,7 @@ use Rattle.trade.specs.declared.Service.{Service}
 use Rattle.trade.specs.declared.Period.{Period}
 use Rattle.trade.specs.declared.Trade.{Trade}
 use Rattle.kinds.specs.Kinds.{present, functionOf}
+use Rattle.fill.specs.Filling.{isAny}
 
 -- ---- code words, from the lists that they are read by
 
@@ -94,10 +94,6 @@ unfoldable pub valueOf : Trade → ℕ → List ℕ
 valueOf t slot = getD (values t) slot []
 
 -- ---- what the layout makes optional: PREP, MAST, PREV, LIST, of each party the contra reference and the trader, and POOL
-
-abbrev pub isAny : List ℕ → ℕ → Bool
-isAny [] slot = false
-isAny (n ∷ ns) slot = eqb slot n || isAny ns slot
 
 unfoldable pub optional : ℕ → Bool
 optional slot = isAny (3 ∷ 4 ∷ 5 ∷ 6 ∷ 13 ∷ 14 ∷ 16 ∷ 17 ∷ 20 ∷ []) slot

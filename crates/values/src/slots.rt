@@ -1,113 +1,134 @@
-// The value of a slot put into a lent buffer, by the slots of a block at a time.
+// The values of a record put into a text, by the slots of a block at a time, and the place behind each kept.
 //
-// Each says beside what it puts that no value is longer than 40 bytes, so that a line of 40 measures every one.
+// Beside what it puts each says how many bytes that is at most, so that 398 have room for all.
 use super::narrative;
 use super::words;
 use text::Text;
+use trade::Party;
 use trade::Trade;
 ghost use mathlib.Core.Path.{_≡_};
-ghost use Prim.Native.Nat.{_≤_, _<_};
-ghost use lib.ListN.{length};
+ghost use mathlib.Core.List.{[], _∷_};
+ghost use Prim.Native.Nat.{_+_, _≤_};
+ghost use lib.ListN.{length, take, drop};
+ghost use lib.Seq.{sets};
 ghost use Rattle.text.specs.Texts.{contents};
 ghost use Rattle.text.specs.Copy.{placed, after};
-ghost use Rattle.values.specs.Values.{valueOf};
+ghost use Rattle.fill.specs.Runs.{overRun, behindRun, flat};
+ghost use Rattle.values.specs.Values.{values};
+ghost use Rattle.values.specs.Places.{ends};
 
 // Only the text is put, and not the zero bytes behind it.
 fn put_text(buf: &mut [u8], at: usize, text: Text) -> usize
-    ensures { λ r. ⌜ (r ≡ after (now (buf .entry)) at (contents text)) × (now (buf .exit) ≡ placed (now (buf .entry)) at (contents text)) × (length (contents text) ≤ 40) ⌝ }
+    ensures { λ r. ⌜ (r ≡ after (now (buf .entry)) at (contents text)) × (now (buf .exit) ≡ placed (now (buf .entry)) at (contents text)) × (length (contents text) ≤ 20) ⌝ }
 {
     text::put_text(buf, at, text)
 }
 
+// Keeps places one behind the other, from the k-th on.
+fn keep(places: &mut [usize], k: usize, ends: &[usize])
+    requires { ⌜ k + length (now ends) ≤ length (now places) ⌝ }
+    ensures { λ _. ⌜ now (places .exit) ≡ sets (now (places .entry)) k (now (ends .entry)) ⌝ }
+{
+    let mut i = 0;
+    while i < ends.len() {
+        places[k + i] = ends[i];
+        i += 1;
+    }
+}
+
 // SEME, 23G, PREP, MAST, PREV and LIST.
-fn put_general(buf: &mut [u8], at: usize, trade: Trade, slot: usize) -> usize
-    requires { ⌜ slot < 7 ⌝ }
-    ensures { λ r. ⌜ (r ≡ after (now (buf .entry)) at (valueOf trade slot)) × (now (buf .exit) ≡ placed (now (buf .entry)) at (valueOf trade slot)) × (length (valueOf trade slot) ≤ 40) ⌝ }
+pub(crate) fn put_general(text: &mut [u8], places: &mut [usize], trade: Trade) -> usize
+    requires { ⌜ length (now places) ≡ 31 ⌝ }
+    ensures { λ r. ⌜ (r ≡ behindRun (now (text .entry)) 0 (take 6 (drop 1 (values trade))))
+        × (now (text .exit) ≡ overRun (now (text .entry)) 0 (take 6 (drop 1 (values trade))))
+        × (now (places .exit) ≡ sets (now (places .entry)) 2 (ends (now (text .entry)) 0 (take 6 (drop 1 (values trade)))))
+        × (length (flat (take 6 (drop 1 (values trade)))) ≤ 98) ⌝ }
 {
     let kind = trade.kind;
-    match slot {
-        1 => put_text(buf, at, trade.seme),
-        2 => text::put(buf, at, &words::function_word(kind)),
-        3 => trade.prep.put(buf, at),
-        4 => put_text(buf, at, trade.mast),
-        5 => put_text(buf, at, trade.prev),
-        6 => put_text(buf, at, trade.list),
-        _ => text::put(buf, at, b""),
-    }
+    let seme = put_text(text, 0, trade.seme);
+    let function = text::put(text, seme, &words::function_word(kind));
+    let prep = trade.prep.put(text, function);
+    let mast = put_text(text, prep, trade.mast);
+    let prev = put_text(text, mast, trade.prev);
+    let list = put_text(text, prev, trade.list);
+    keep(places, 2, &[seme, function, prep, mast, prev, list]);
+    list
 }
 
 // TRAD, SETT, DEAL, BUSE and PROC.
-fn put_details(buf: &mut [u8], at: usize, trade: Trade, slot: usize) -> usize
-    requires { ⌜ (7 ≤ slot) × (slot < 12) ⌝ }
-    ensures { λ r. ⌜ (r ≡ after (now (buf .entry)) at (valueOf trade slot)) × (now (buf .exit) ≡ placed (now (buf .entry)) at (valueOf trade slot)) × (length (valueOf trade slot) ≤ 40) ⌝ }
+pub(crate) fn put_details(text: &mut [u8], places: &mut [usize], at: usize, trade: Trade) -> usize
+    requires { ⌜ length (now places) ≡ 31 ⌝ }
+    ensures { λ r. ⌜ (r ≡ behindRun (now (text .entry)) at (take 5 (drop 7 (values trade))))
+        × (now (text .exit) ≡ overRun (now (text .entry)) at (take 5 (drop 7 (values trade))))
+        × (now (places .exit) ≡ sets (now (places .entry)) 8 (ends (now (text .entry)) at (take 5 (drop 7 (values trade)))))
+        × (length (flat (take 5 (drop 7 (values trade)))) ≤ 45) ⌝ }
 {
     let side = trade.side;
     let kind = trade.kind;
-    match slot {
-        7 => trade.trad.put(buf, at),
-        8 => trade.sett.put(buf, at),
-        9 => trade.price.0.put(buf, at),
-        10 => text::put(buf, at, &words::side_word(side)),
-        _ => text::put(buf, at, &words::kind_word(kind)),
-    }
+    let trad = trade.trad.put(text, at);
+    let sett = trade.sett.put(text, trad);
+    let price = trade.price.0.put(text, sett);
+    let buse = text::put(text, price, &words::side_word(side));
+    let proc = text::put(text, buse, &words::kind_word(kind));
+    keep(places, 8, &[trad, sett, price, buse, proc]);
+    proc
 }
 
-// The code, the contra reference and the trader of the buyer, and of the seller.
-fn put_parties(buf: &mut [u8], at: usize, trade: Trade, slot: usize) -> usize
-    requires { ⌜ (12 ≤ slot) × (slot < 18) ⌝ }
-    ensures { λ r. ⌜ (r ≡ after (now (buf .entry)) at (valueOf trade slot)) × (now (buf .exit) ≡ placed (now (buf .entry)) at (valueOf trade slot)) × (length (valueOf trade slot) ≤ 40) ⌝ }
+// The code, the contra reference and the trader of a party.
+pub(crate) fn put_party(
+    text: &mut [u8],
+    places: &mut [usize],
+    at: usize,
+    k: usize,
+    party: Party,
+) -> usize
+    requires { ⌜ k + 3 ≤ length (now places) ⌝ }
+    ensures { λ r. ⌜ (r ≡ behindRun (now (text .entry)) at (contents (party .code) ∷ contents (party .reference) ∷ contents (party .trader) ∷ []))
+        × (now (text .exit) ≡ overRun (now (text .entry)) at (contents (party .code) ∷ contents (party .reference) ∷ contents (party .trader) ∷ []))
+        × (now (places .exit) ≡ sets (now (places .entry)) k (ends (now (text .entry)) at (contents (party .code) ∷ contents (party .reference) ∷ contents (party .trader) ∷ [])))
+        × (length (flat (contents (party .code) ∷ contents (party .reference) ∷ contents (party .trader) ∷ [])) ≤ 60) ⌝ }
 {
-    match slot {
-        12 => put_text(buf, at, trade.buyer.code),
-        13 => put_text(buf, at, trade.buyer.reference),
-        14 => put_text(buf, at, trade.buyer.trader),
-        15 => put_text(buf, at, trade.seller.code),
-        16 => put_text(buf, at, trade.seller.reference),
-        _ => put_text(buf, at, trade.seller.trader),
-    }
+    let code = put_text(text, at, party.code);
+    let reference = put_text(text, code, party.reference);
+    let trader = put_text(text, reference, party.trader);
+    keep(places, k, &[code, reference, trader]);
+    trader
 }
 
 // Par, CUSIP, POOL and the narrative.
-fn put_security(buf: &mut [u8], at: usize, trade: Trade, slot: usize) -> usize
-    requires { ⌜ (18 ≤ slot) × (slot < 22) ⌝ }
-    ensures { λ r. ⌜ (r ≡ after (now (buf .entry)) at (valueOf trade slot)) × (now (buf .exit) ≡ placed (now (buf .entry)) at (valueOf trade slot)) × (length (valueOf trade slot) ≤ 40) ⌝ }
+pub(crate) fn put_security(text: &mut [u8], places: &mut [usize], at: usize, trade: Trade) -> usize
+    requires { ⌜ length (now places) ≡ 31 ⌝ }
+    ensures { λ r. ⌜ (r ≡ behindRun (now (text .entry)) at (take 4 (drop 18 (values trade))))
+        × (now (text .exit) ≡ overRun (now (text .entry)) at (take 4 (drop 18 (values trade))))
+        × (now (places .exit) ≡ sets (now (places .entry)) 19 (ends (now (text .entry)) at (take 4 (drop 18 (values trade)))))
+        × (length (flat (take 4 (drop 18 (values trade)))) ≤ 95) ⌝ }
 {
     let service = trade.service;
     let period = trade.period;
-    match slot {
-        18 => trade.par.0.put(buf, at),
-        19 => put_text(buf, at, trade.cusip),
-        20 => put_text(buf, at, trade.pool),
-        _ => narrative::put_narrative(buf, at, service, period, trade.reason),
-    }
+    let par = trade.par.0.put(text, at);
+    let cusip = put_text(text, par, trade.cusip);
+    let pool = put_text(text, cusip, trade.pool);
+    let told = narrative::put_narrative(text, pool, service, period, trade.reason);
+    keep(places, 19, &[par, cusip, pool, told]);
+    told
 }
 
-// The password and the sender.
-fn put_header(buf: &mut [u8], at: usize, trade: Trade, slot: usize) -> usize
-    requires { ⌜ 22 ≤ slot ⌝ }
-    ensures { λ r. ⌜ (r ≡ after (now (buf .entry)) at (valueOf trade slot)) × (now (buf .exit) ≡ placed (now (buf .entry)) at (valueOf trade slot)) × (length (valueOf trade slot) ≤ 40) ⌝ }
+// The password and the sender; in front of them six numbers that name no slot.
+pub(crate) fn put_header(
+    text: &mut [u8],
+    places: &mut [usize],
+    at: usize,
+    password: Text,
+    sender: Text,
+) -> usize
+    requires { ⌜ length (now places) ≡ 31 ⌝ }
+    ensures { λ r. ⌜ (r ≡ behindRun (now (text .entry)) at ([] ∷ [] ∷ [] ∷ [] ∷ [] ∷ [] ∷ contents password ∷ contents sender ∷ []))
+        × (now (text .exit) ≡ overRun (now (text .entry)) at ([] ∷ [] ∷ [] ∷ [] ∷ [] ∷ [] ∷ contents password ∷ contents sender ∷ []))
+        × (now (places .exit) ≡ sets (now (places .entry)) 23 (ends (now (text .entry)) at ([] ∷ [] ∷ [] ∷ [] ∷ [] ∷ [] ∷ contents password ∷ contents sender ∷ [])))
+        × (length (flat ([] ∷ [] ∷ [] ∷ [] ∷ [] ∷ [] ∷ contents password ∷ contents sender ∷ [])) ≤ 40) ⌝ }
 {
-    match slot {
-        28 => put_text(buf, at, trade.password),
-        29 => put_text(buf, at, trade.sender),
-        _ => text::put(buf, at, b""),
-    }
-}
-
-pub(crate) fn put_slot(buf: &mut [u8], at: usize, trade: Trade, slot: usize) -> usize
-    ensures { λ r. ⌜ (r ≡ after (now (buf .entry)) at (valueOf trade slot)) × (now (buf .exit) ≡ placed (now (buf .entry)) at (valueOf trade slot)) × (length (valueOf trade slot) ≤ 40) ⌝ }
-{
-    if slot < 7 {
-        return put_general(buf, at, trade, slot);
-    }
-    if slot < 12 {
-        return put_details(buf, at, trade, slot);
-    }
-    if slot < 18 {
-        return put_parties(buf, at, trade, slot);
-    }
-    if slot < 22 {
-        return put_security(buf, at, trade, slot);
-    }
-    put_header(buf, at, trade, slot)
+    let first = put_text(text, at, password);
+    let second = put_text(text, first, sender);
+    keep(places, 23, &[at, at, at, at, at, at, first, second]);
+    second
 }

@@ -20,7 +20,7 @@ pub(crate) fn function_word(kind: Kind) -> [u8; 4]
     }
 }
 
-pub(crate) fn kind_word(kind: Kind) -> [u8; 4]
+pub fn kind_word(kind: Kind) -> [u8; 4]
     ensures { λ r. ⌜ r ≡ kindWord kind ⌝ }
 {
     match kind {

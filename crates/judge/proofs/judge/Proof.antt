@@ -18,14 +18,14 @@ record-pass-requires c κs = search needs
 returns-2 : tie.Need-returns-2
 returns-2 c = rule-broken _ (sym (c .before .before .before .before .in-form .ensures) ∙ not-false _ (c .before .before .before .if1 .left)) _ (c .before .before .record-pass .ensures) (c .if2 .taken)
 
-value-length-requires : tie.Need-value-length-requires
-value-length-requires c κs = search needs
+narrative-length-requires : tie.Need-narrative-length-requires
+narrative-length-requires c κs = search needs
 
 returns-3 : tie.Need-returns-3
-returns-3 c = too-long _ (sym (c .before .before .before .before .before .before .in-form .ensures) ∙ not-false _ (c .before .before .before .before .before .if1 .left)) _ (c .before .before .before .before .record-pass .ensures) (c .before .before .if2 .left) _ (c .before .value-length .ensures) (c .if3 .taken)
+returns-3 c = too-long _ (sym (c .before .before .before .before .before .before .in-form .ensures) ∙ not-false _ (c .before .before .before .before .before .if1 .left)) _ (c .before .before .before .before .record-pass .ensures) (c .before .before .if2 .left) _ (c .before .narrative-length .ensures) (c .if3 .taken)
 
 returns-4 : tie.Need-returns-4
-returns-4 c = nothing-wrong _ (sym (c .before .before .before .before .before .before .in-form .ensures) ∙ not-false _ (c .before .before .before .before .before .if1 .left)) _ (c .before .before .before .before .record-pass .ensures) (c .before .before .if2 .left) _ (c .before .value-length .ensures) (c .if3 .left)
+returns-4 c = nothing-wrong _ (sym (c .before .before .before .before .before .before .in-form .ensures) ∙ not-false _ (c .before .before .before .before .before .if1 .left)) _ (c .before .before .before .before .record-pass .ensures) (c .before .before .if2 .left) _ (c .before .narrative-length .ensures) (c .if3 .left)
 
 pub judge-spec : {M : Type 1} → statement M
 judge-spec =
@@ -35,6 +35,6 @@ judge-spec =
     returns
     record-pass-requires
     returns-2
-    value-length-requires
+    narrative-length-requires
     returns-3
     returns-4)

@@ -1,7 +1,7 @@
 -- `listing::compose` meets its contract: part behind part. Assumes nothing.
 use mathlib.Core.List.{[], _∷_}
 use Rattle.text.specs.Bytes.{bytes}
-use Rattle.message.proofs.Turns.{one, then}
+use Rattle.fill.proofs.Runs.{one, then}
 use Rattle.listing.specs.Walks.{partsOf}
 use Rattle.listing.proofs.Laws.{Short, row-short}
 use borrow.Author.Needs.{needs}

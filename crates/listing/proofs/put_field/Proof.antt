@@ -1,7 +1,7 @@
 -- `listing::put_field` meets its contract. Assumes nothing.
 use mathlib.Core.List.{[], _∷_}
 use Rattle.text.specs.Bytes.{bytes}
-use Rattle.message.proofs.Turns.{one, then}
+use Rattle.fill.proofs.Runs.{one, then}
 use borrow.Author.Needs.{needs}
 use Rattle.listing.proofs.put_field.Statement.{statement}
 use Rattle.listing.proofs.put_field.Tie as tie

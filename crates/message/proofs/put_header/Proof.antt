@@ -1,8 +1,7 @@
 -- `message::put_header` meets its contract. Assumes nothing.
 use mathlib.Core.List.{[], _∷_}
-use Rattle.message.proofs.Turns.{one, then}
 use Rattle.text.specs.Bytes.{bytes}
-use Rattle.message.specs.Walks.{headerParts}
+use Rattle.fill.proofs.Runs.{one, then}
 use borrow.Author.Needs.{needs}
 use Rattle.message.proofs.put_header.Statement.{statement}
 use Rattle.message.proofs.put_header.Tie as tie
@@ -29,7 +28,7 @@ same-length : tie.Need-same-length
 same-length c = search needs
 
 returns : tie.Need-returns
-unfolding bytes headerParts
+unfolding bytes
 returns c =
     let e = c .before .before .before .before .before .before .before in
     then _ _ (_ ∷ []) _ (one _ _ _ (e .before .before .before .before .before .before .before .before .before .put-text .ensures))

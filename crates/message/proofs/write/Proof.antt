@@ -18,12 +18,12 @@ returns c = judged (c .before .before .before .args .trade) (c .before .before .
 slice-aggregate-compose : tie.Need-slice-aggregate-compose
 slice-aggregate-compose c = search needs
 
-compose-requires : tie.Need-compose-requires
-compose-requires c κs = search needs
-
 -- nothing is wrong with the record
 good : (c : tie.Else1) → judgeOf (c .before .before .before .args .trade) ≡ 0
 good c = sym (c .before .judge .ensures) ∙ c .if1 .left
+
+compose-requires : tie.Need-compose-requires
+compose-requires c κs = message-most _ (good (c .before))
 
 -- what was composed is as long as the message
 long : (c : tie.After-compose) → c .compose .result ≡ length (messageOf (c .before .before .before .before .before .args .trade))

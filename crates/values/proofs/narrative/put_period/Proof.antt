@@ -2,7 +2,7 @@
 use Rattle.text.specs.Bytes.{bytes}
 use Rattle.digits.specs.Numerals.{digits}
 use Rattle.values.specs.Values.{periodText}
-use Rattle.values.proofs.Turns.{two}
+use Rattle.fill.proofs.Runs.{two}
 use borrow.Author.Needs.{needs}
 use Rattle.values.proofs.narrative.put_period.Statement.{statement}
 use Rattle.values.proofs.narrative.put_period.Tie as tie

@@ -8,7 +8,8 @@ use Rattle.text.specs.Bytes.{bytes}
 use Rattle.text.specs.Texts.{contents}
 use Rattle.kinds.specs.Kinds.{present}
 use Rattle.values.specs.Values.{reasonText}
-use Rattle.values.proofs.Turns.{two, contents-short}
+use Rattle.fill.proofs.Runs.{two}
+use Rattle.values.proofs.Turns.{contents-short}
 use borrow.Author.Needs.{needs}
 use Rattle.values.proofs.narrative.put_reason.Statement.{statement}
 use Rattle.values.proofs.narrative.put_reason.Tie as tie

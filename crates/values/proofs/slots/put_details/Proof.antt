@@ -1,12 +1,14 @@
--- `values::slots::put_details` meets its contract: each slot has its value. Assumes nothing.
-use mathlib.Core.Path.{_≡_, ap, _∙_}
-use native.Mathlib.Omega.{arith}
-use lib.ListN.{length}
-use Rattle.values.specs.Values.{values, valueOf}
-use Rattle.values.proofs.Turns.{moment-fits, date-fits, amount-fits, word-fits, side-four, kind-four}
+-- `values::slots::put_details` meets its contract. Assumes nothing.
+use mathlib.Core.List.{[], _∷_}
+use Rattle.values.specs.Values.{values}
+use Rattle.values.proofs.Places.{kept, behind, stored}
+use Rattle.values.proofs.Turns.{moment-most, date-most, amount-most, word-most, side-four, kind-four}
 use borrow.Author.Needs.{needs}
 use Rattle.values.proofs.slots.put_details.Statement.{statement}
 use Rattle.values.proofs.slots.put_details.Tie as tie
+use Rattle.amount.proofs.Amount.put.Reads as Amount-put-reads
+use Rattle.calendar.proofs.Date.put.Reads as Date-put-reads
+use Rattle.calendar.proofs.Moment.put.Reads as Moment-put-reads
 
 put-requires : tie.Need-put-requires
 put-requires c κs = search needs
@@ -35,50 +37,31 @@ slice-aggregate-put-2 c = search needs
 put-requires-5 : tie.Need-put-requires-5
 put-requires-5 c κs = search needs
 
+slice-aggregate-keep : tie.Need-slice-aggregate-keep
+slice-aggregate-keep c = search needs
+
+keep-requires : tie.Need-keep-requires
+keep-requires c κs = search needs
+
 same-length : tie.Need-same-length
 same-length c = search needs
-
-returns : tie.Need-returns
-unfolding valueOf values
-returns c = let e = c .before .before .put .ensures in rw (c .before .before .before .before .match .keys1) (e .0, e .1, moment-fits _)
 
 same-length-2 : tie.Need-same-length-2
 same-length-2 c = search needs
 
-returns-2 : tie.Need-returns-2
-unfolding valueOf values
-returns-2 c = let e = c .before .before .put2 .ensures in rw (c .before .before .before .before .match .keys2) (e .0, e .1, date-fits _)
-
-same-length-3 : tie.Need-same-length-3
-same-length-3 c = search needs
-
-returns-3 : tie.Need-returns-3
-unfolding valueOf values
-returns-3 c = let e = c .before .before .put3 .ensures in rw (c .before .before .before .before .match .keys3) (e .0, e .1, amount-fits _)
-
-same-length-4 : tie.Need-same-length-4
-same-length-4 c = search needs
-
-returns-4 : tie.Need-returns-4
-unfolding valueOf values
-returns-4 c =
-    let w = c .before .before .before .before in
-    let e = c .before .before .put4 .ensures in
-    rw (c .before .before .before .before .before .before .match .keys4, ← w .side-word .ensures) (e .0, e .1, word-fits (w .side-word .result) (ap length (w .side-word .ensures) ∙ side-four _))
-
-same-length-5 : tie.Need-same-length-5
-same-length-5 c = search needs
-
-returns-5 : tie.Need-returns-5
-unfolding valueOf values
-returns-5 c =
-    let w = c .before .before .before .before in
-    let m = w .before .before in
-    let r = m .match .rest in
-    let p = m .before .before .pre in
-    let s : m .before .before .args .slot ≡ 11 = omega (arith, p .0, p .1, r .0 .0 .0 .1, r .0 .0 .1, r .0 .1, r .1) in
-    let e = c .before .before .put5 .ensures in
-    rw (s, ← w .kind-word .ensures) (e .0, e .1, word-fits (w .kind-word .result) (ap length (w .kind-word .ensures) ∙ kind-four _))
+returns : tie.Need-returns
+unfolding values
+returns c =
+    let s = c .before .before .before .before .before .before .before .before .before .before .before .before .before .before .before .side-word in
+    let k = c .before .before .before .before .before .before .before .before .before .kind-word in
+    rw (← s .ensures, ← k .ensures)
+    (stored _ _ _ _ _ _ 45
+    (behind _ _ (_ ∷ []) _ (_ ∷ []) _ 14 31 (kept _ _ _ 14 (let e = c .before .before .before .before .before .before .before .before .before .before .before .before .before .before .before .before .before .before .before .before .before .before .before .before .before .before .before .put .ensures in (e .0, e .1, moment-most _)))
+    (behind _ _ (_ ∷ []) _ (_ ∷ []) _ 8 23 (kept _ _ _ 8 (let e = c .before .before .before .before .before .before .before .before .before .before .before .before .before .before .before .before .before .before .before .before .before .before .before .put2 .ensures in (e .0, e .1, date-most _)))
+    (behind _ _ (_ ∷ []) _ (_ ∷ []) _ 15 8 (kept _ _ _ 15 (let e = c .before .before .before .before .before .before .before .before .before .before .before .before .before .before .before .before .before .before .before .put3 .ensures in (e .0, e .1, amount-most _)))
+    (behind _ _ (_ ∷ []) (_ ∷ []) (_ ∷ []) _ 4 4 (kept _ _ _ 4 (let e = c .before .before .before .before .before .before .before .before .before .before .before .before .before .put4 .ensures in (e .0, e .1, word-most _ _ (s .ensures) (side-four _))))
+    (kept _ _ _ 4 (let e = c .before .before .before .before .before .before .before .put5 .ensures in (e .0, e .1, word-most _ _ (k .ensures) (kind-four _))))))))
+    (c .before .before .keep .ensures))
 
 pub put-details-spec : {M : Type 1} → statement M
 put-details-spec =
@@ -93,13 +76,8 @@ put-details-spec =
     kind-word-requires
     slice-aggregate-put-2
     put-requires-5
+    slice-aggregate-keep
+    keep-requires
     same-length
-    returns
     same-length-2
-    returns-2
-    same-length-3
-    returns-3
-    same-length-4
-    returns-4
-    same-length-5
-    returns-5)
+    returns)

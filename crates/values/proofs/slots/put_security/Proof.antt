@@ -1,8 +1,8 @@
--- `values::slots::put_security` meets its contract: each slot has its value. Assumes nothing.
-use mathlib.Core.Path.{_≡_}
-use native.Mathlib.Omega.{arith}
-use Rattle.values.specs.Values.{values, valueOf}
-use Rattle.values.proofs.Turns.{amount-fits}
+-- `values::slots::put_security` meets its contract. Assumes nothing.
+use mathlib.Core.List.{[], _∷_}
+use Rattle.values.specs.Values.{values}
+use Rattle.values.proofs.Places.{kept, behind, stored}
+use Rattle.values.proofs.Turns.{amount-most}
 use borrow.Author.Needs.{needs}
 use Rattle.values.proofs.slots.put_security.Statement.{statement}
 use Rattle.values.proofs.slots.put_security.Tie as tie
@@ -19,38 +19,27 @@ put-text-requires-2 c κs = search needs
 put-narrative-requires : tie.Need-put-narrative-requires
 put-narrative-requires c κs = search needs
 
+slice-aggregate-keep : tie.Need-slice-aggregate-keep
+slice-aggregate-keep c = search needs
+
+keep-requires : tie.Need-keep-requires
+keep-requires c κs = search needs
+
 same-length : tie.Need-same-length
 same-length c = search needs
-
-returns : tie.Need-returns
-unfolding valueOf values
-returns c = let e = c .before .before .put .ensures in rw (c .before .before .before .before .match .keys1) (e .0, e .1, amount-fits _)
 
 same-length-2 : tie.Need-same-length-2
 same-length-2 c = search needs
 
-returns-2 : tie.Need-returns-2
-unfolding valueOf values
-returns-2 c = rw (c .before .before .before .before .match .keys2) (c .before .before .put-text .ensures)
-
-same-length-3 : tie.Need-same-length-3
-same-length-3 c = search needs
-
-returns-3 : tie.Need-returns-3
-unfolding valueOf values
-returns-3 c = rw (c .before .before .before .before .match .keys3) (c .before .before .put-text2 .ensures)
-
-same-length-4 : tie.Need-same-length-4
-same-length-4 c = search needs
-
-returns-4 : tie.Need-returns-4
-unfolding valueOf values
-returns-4 c =
-    let m = c .before .before .before .before in
-    let r = m .match .rest in
-    let p = m .before .before .pre in
-    let s : m .before .before .args .slot ≡ 21 = omega (arith, p .0, p .1, r .0 .0 .1, r .0 .1, r .1) in
-    rw s (c .before .before .put-narrative .ensures)
+returns : tie.Need-returns
+unfolding values
+returns c =
+    stored _ _ _ _ _ _ 95
+    (behind _ _ (_ ∷ []) _ (_ ∷ []) _ 15 80 (kept _ _ _ 15 (let e = c .before .before .before .before .before .before .before .before .before .before .before .before .before .before .before .before .before .before .before .put .ensures in (e .0, e .1, amount-most _)))
+    (behind _ _ (_ ∷ []) _ (_ ∷ []) _ 20 60 (kept _ _ _ 20 (c .before .before .before .before .before .before .before .before .before .before .before .before .before .before .before .put-text .ensures))
+    (behind _ _ (_ ∷ []) (_ ∷ []) (_ ∷ []) _ 20 40 (kept _ _ _ 20 (c .before .before .before .before .before .before .before .before .before .before .before .put-text2 .ensures))
+    (kept _ _ _ 40 (c .before .before .before .before .before .before .before .put-narrative .ensures)))))
+    (c .before .before .keep .ensures)
 
 pub put-security-spec : {M : Type 1} → statement M
 put-security-spec =
@@ -60,11 +49,8 @@ put-security-spec =
     put-text-requires
     put-text-requires-2
     put-narrative-requires
+    slice-aggregate-keep
+    keep-requires
     same-length
-    returns
     same-length-2
-    returns-2
-    same-length-3
-    returns-3
-    same-length-4
-    returns-4)
+    returns)

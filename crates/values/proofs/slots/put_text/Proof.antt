@@ -1,7 +1,7 @@
 -- `values::slots::put_text` meets its contract. Assumes nothing.
 use mathlib.Core.Path.{_≡_}
 use lib.ListN.{length}
-use Rattle.values.proofs.Turns.{text-fits}
+use Rattle.values.proofs.Turns.{contents-short}
 use borrow.Author.Needs.{needs}
 use Rattle.values.proofs.slots.put_text.Statement.{statement}
 use Rattle.values.proofs.slots.put_text.Tie as tie
@@ -16,7 +16,7 @@ returns : tie.Need-returns
 returns c =
     let e = c .before .before .put-text .ensures in
     let n : length (c .before .before .before .before .before .args .text .bytes) ≡ 20 = search needs in
-    (e .0, e .1, text-fits _ n)
+    (e .0, e .1, contents-short _ n)
 
 pub put-text-spec : {M : Type 1} → statement M
 put-text-spec = tie.close (tie.spec put-text-requires same-length returns)

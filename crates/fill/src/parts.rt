@@ -1,0 +1,139 @@
+// What a row puts that stands: the parts of its lines.
+ghost use mathlib.Core.Path.{_≡_};
+ghost use mathlib.Core.List.{[], _∷_};
+ghost use mathlib.Core.Bool.{_&&_};
+ghost use lib.Dec.{eqb};
+ghost use Rattle.text.specs.Bytes.{bytes};
+ghost use Rattle.layout.specs.Rows.{rowOf};
+ghost use Rattle.fill.specs.Runs.{overRun, behindRun};
+ghost use Rattle.fill.specs.Filling.{lent, isAny, frontOf, partsAt, ended, heldParts, puts};
+
+// A number is one of two.
+pub(crate) fn either(n: u8, a: u8, b: u8) -> bool
+    ensures { λ r. ⌜ r ≡ isAny (a ∷ b ∷ []) n ⌝ }
+{
+    (n == a) | (n == b)
+}
+
+// A slot is optional, and its value has no bytes.
+fn is_absent(optional: &[u8], slot: u8, length: usize) -> bool
+    ensures { λ r. ⌜ r ≡ (isAny (now (optional .entry)) slot && eqb length 0) ⌝ }
+{
+    if length != 0 {
+        return false;
+    }
+    text::find(optional, slot) < optional.len()
+}
+
+// The fixed text in front of a value of so many bytes; nothing where an optional slot has none.
+pub(crate) fn front<'a, 'b>(
+    slots: &'a [u8],
+    optional: &'b [u8],
+    slot: u8,
+    length: usize,
+) -> &'a [u8]
+    ensures { λ r. ⌜ now r ≡ frontOf (now (slots .entry)) (now (optional .entry)) slot length ⌝ }
+{
+    if is_absent(optional, slot, length) {
+        return &slots[..0];
+    }
+    forms::fixed_text(slots, slot as usize)
+}
+
+// The first or last line of a block.
+fn put_edge(buf: &mut [u8], at: usize, key: &[u8]) -> usize
+    ensures { λ r. ⌜ (r ≡ behindRun (now (buf .entry)) at (ended (now (key .entry)))) × (now (buf .exit) ≡ overRun (now (buf .entry)) at (ended (now (key .entry)))) ⌝ }
+{
+    let end = text::put(buf, at, key);
+    text::put(buf, end, b"\r\n")
+}
+
+// A line by what it is made of.
+fn put_line(buf: &mut [u8], at: usize, key: &[u8], front: &[u8], value: &[u8]) -> usize
+    ensures { λ r. ⌜ (r ≡ behindRun (now (buf .entry)) at (now (key .entry) ∷ now (front .entry) ∷ now (value .entry) ∷ bytes "\r\n" ∷ [])) × (now (buf .exit) ≡ overRun (now (buf .entry)) at (now (key .entry) ∷ now (front .entry) ∷ now (value .entry) ∷ bytes "\r\n" ∷ [])) ⌝ }
+{
+    let fixed = text::put(buf, at, key);
+    let from = text::put(buf, fixed, front);
+    let behind = text::put(buf, from, value);
+    text::put(buf, behind, b"\r\n")
+}
+
+// The line of a slot.
+fn put_held<'a>(
+    buf: &mut [u8],
+    at: usize,
+    key: &[u8],
+    slot: u8,
+    slots: &[u8],
+    optional: &[u8],
+    text: &[u8],
+    starts: &'a [usize],
+    ends: &'a [usize],
+) -> usize
+    ensures { λ r. ⌜ (r ≡ behindRun (now (buf .entry)) at (heldParts (partsAt (lent (now (slots .entry)) (now (optional .entry)) (now (text .entry)) (now (starts .entry)) (now (ends .entry)))) slot (now (key .entry)))) × (now (buf .exit) ≡ overRun (now (buf .entry)) at (heldParts (partsAt (lent (now (slots .entry)) (now (optional .entry)) (now (text .entry)) (now (starts .entry)) (now (ends .entry)))) slot (now (key .entry)))) ⌝ }
+{
+    let value = stretches::stretch(text, starts, ends, slot as usize);
+    let fixed = front(slots, optional, slot, value.len());
+    put_line(buf, at, key, fixed, value)
+}
+
+// The first lines of one of many blocks.
+fn put_mark<'a>(
+    buf: &mut [u8],
+    at: usize,
+    first: &[u8],
+    key: &[u8],
+    slot: u8,
+    slots: &[u8],
+    optional: &[u8],
+    text: &[u8],
+    starts: &'a [usize],
+    ends: &'a [usize],
+) -> usize
+    ensures { λ r. ⌜ (r ≡ behindRun (now (buf .entry)) at (puts (partsAt (lent (now (slots .entry)) (now (optional .entry)) (now (text .entry)) (now (starts .entry)) (now (ends .entry)))) (now (first .entry)) (rowOf 8 slot (now (key .entry))))) × (now (buf .exit) ≡ overRun (now (buf .entry)) at (puts (partsAt (lent (now (slots .entry)) (now (optional .entry)) (now (text .entry)) (now (starts .entry)) (now (ends .entry)))) (now (first .entry)) (rowOf 8 slot (now (key .entry))))) ⌝ }
+{
+    let from = put_edge(buf, at, first);
+    put_held(buf, from, key, slot, slots, optional, text, starts, ends)
+}
+
+// A row that stands, by its kind; `first` is the first line of the last many blocks.
+pub(crate) fn put_row<'a>(
+    buf: &mut [u8],
+    at: usize,
+    kind: u8,
+    first: &[u8],
+    key: &[u8],
+    slot: u8,
+    slots: &[u8],
+    optional: &[u8],
+    text: &[u8],
+    starts: &'a [usize],
+    ends: &'a [usize],
+) -> usize
+    ensures { λ r. ⌜ (r ≡ behindRun (now (buf .entry)) at (puts (partsAt (lent (now (slots .entry)) (now (optional .entry)) (now (text .entry)) (now (starts .entry)) (now (ends .entry)))) (now (first .entry)) (rowOf kind slot (now (key .entry))))) × (now (buf .exit) ≡ overRun (now (buf .entry)) at (puts (partsAt (lent (now (slots .entry)) (now (optional .entry)) (now (text .entry)) (now (starts .entry)) (now (ends .entry)))) (now (first .entry)) (rowOf kind slot (now (key .entry))))) ⌝ }
+{
+    if either(kind, 1, 2) {
+        return put_held(buf, at, key, slot, slots, optional, text, starts, ends);
+    }
+    if either(kind, 3, 4) {
+        return put_edge(buf, at, key);
+    }
+    if either(kind, 5, 9) {
+        return put_edge(buf, at, key);
+    }
+    if kind == 8 {
+        return put_mark(
+            buf,
+            at,
+            first,
+            key,
+            slot,
+            slots,
+            optional,
+            text,
+            starts,
+            ends,
+        );
+    }
+    at
+}

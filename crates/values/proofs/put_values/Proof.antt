@@ -1,0 +1,94 @@
+-- `values::put_values` meets its contract: the blocks put the values of all slots. Assumes nothing.
+use Prim.Native.Nat.{_≤_}
+use mathlib.Core.Path.{_≡_, refl, sym, ap, _∙_}
+use mathlib.Core.List.{[], _∷_}
+use lib.ListN.{length, set, length-set}
+use Rattle.fill.specs.Runs.{overRun, flat}
+use Rattle.fill.proofs.Runs.{length-run}
+use Rattle.values.specs.Values.{values}
+use Rattle.values.specs.Places.{ends}
+use Rattle.values.proofs.Places.{none-kept, stored, more, all-places}
+use borrow.Author.Needs.{needs}
+use Rattle.values.proofs.put_values.Statement.{statement}
+use Rattle.values.proofs.put_values.Tie as tie
+
+-- there are 31 places, by their type
+many : (c : tie.After-put-general-arg2) → length (c .before .before .before .args .places .now) ≡ 31
+many c =
+    let p = c .before .before .before .args .places .now in
+    let n : length (set (set p 0 0) 1 0) ≡ 31 = search needs in
+    sym (length-set p 0 0) ∙ sym (length-set (set p 0 0) 1 0) ∙ n
+
+element-write-places : tie.Need-element-write-places
+element-write-places c = search needs
+
+element-write-places-2 : tie.Need-element-write-places-2
+element-write-places-2 c = search needs
+
+put-general-requires : tie.Need-put-general-requires
+put-general-requires c κs = search needs
+
+put-details-requires : tie.Need-put-details-requires
+put-details-requires c κs = search needs
+
+put-party-requires : tie.Need-put-party-requires
+put-party-requires c κs = search needs
+
+put-party-requires-2 : tie.Need-put-party-requires-2
+put-party-requires-2 c κs = search needs
+
+put-security-requires : tie.Need-put-security-requires
+put-security-requires c κs = search needs
+
+put-header-requires : tie.Need-put-header-requires
+put-header-requires c κs = search needs
+
+-- the blocks, one behind the other
+abbrev general : tie.After-slice-known7 → tie.After-put-general
+general c = c .before .before .before .before .before .before .before .before .before .before .before .before .before .before .before .before .before .before .before .before .before .before .before .before .before .before .before
+
+abbrev start : tie.After-slice-known7 → tie.Start
+start c = general c .before .before .before .before
+
+put : (c : tie.After-slice-known7) → (c .before .before .put-header .last .0 ≡ overRun (start c .args .text .now) 0 (values (start c .args .trade)))
+    × (c .before .before .put-header .last .1 .0 ≡ 0 ∷ ends (start c .args .text .now) 0 (values (start c .args .trade)))
+    × (length (flat (values (start c .args .trade))) ≤ 398)
+unfolding values
+put c =
+    let h = c .before .before in
+    let s = h .before .before .before .before .before in
+    let q = s .before .before .before .before .before in
+    let p = q .before .before .before .before .before in
+    let d = p .before .before .before .before .before in
+    let g = general c in
+    let a = start c .args in
+    let text = a .text .now in
+    let ps = set (a .places .now) 0 0 in
+    all-places text (a .places .now) (values (a .trade)) 398 (many (g .before))
+    (more text ps 0 1 2 ([] ∷ []) _ 0 398 refl (stored text ps 0 1 ([] ∷ []) (0 ∷ []) 0 (none-kept text 0) refl)
+    (more _ _ _ 2 8 _ _ 98 300 refl (g .put-general .ensures)
+    (more _ _ _ 8 13 _ _ 45 255 refl (d .put-details .ensures)
+    (more _ _ _ 13 16 _ _ 60 195 refl (p .put-party .ensures)
+    (more _ _ _ 16 19 _ _ 60 135 refl (q .put-party2 .ensures)
+    (more _ _ _ 19 23 _ _ 95 40 refl (s .put-security .ensures) (h .put-header .ensures)))))))
+
+same-length : tie.Need-same-length
+same-length c = ap length (put c .0) ∙ length-run _ _ _
+
+returns : tie.Need-returns
+returns c = put c
+
+pub put-values-spec : {M : Type 1} → statement M
+put-values-spec =
+    tie.close
+    (tie.spec
+    element-write-places
+    element-write-places-2
+    put-general-requires
+    put-details-requires
+    put-party-requires
+    put-party-requires-2
+    put-security-requires
+    put-header-requires
+    same-length
+    returns)

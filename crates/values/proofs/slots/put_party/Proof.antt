@@ -1,0 +1,48 @@
+-- `values::slots::put_party` meets its contract. Assumes nothing.
+use mathlib.Core.List.{[], _∷_}
+use Rattle.values.proofs.Places.{kept, behind, stored}
+use borrow.Author.Needs.{needs}
+use Rattle.values.proofs.slots.put_party.Statement.{statement}
+use Rattle.values.proofs.slots.put_party.Tie as tie
+
+put-text-requires : tie.Need-put-text-requires
+put-text-requires c κs = search needs
+
+put-text-requires-2 : tie.Need-put-text-requires-2
+put-text-requires-2 c κs = search needs
+
+put-text-requires-3 : tie.Need-put-text-requires-3
+put-text-requires-3 c κs = search needs
+
+slice-aggregate-keep : tie.Need-slice-aggregate-keep
+slice-aggregate-keep c = search needs
+
+keep-requires : tie.Need-keep-requires
+keep-requires c κs = search needs
+
+same-length : tie.Need-same-length
+same-length c = search needs
+
+same-length-2 : tie.Need-same-length-2
+same-length-2 c = search needs
+
+returns : tie.Need-returns
+returns c =
+    stored _ _ _ _ _ _ 60
+    (behind _ _ (_ ∷ []) _ (_ ∷ []) _ 20 40 (kept _ _ _ 20 (c .before .before .before .before .before .before .before .before .before .before .before .before .before .before .before .put-text .ensures))
+    (behind _ _ (_ ∷ []) (_ ∷ []) (_ ∷ []) _ 20 20 (kept _ _ _ 20 (c .before .before .before .before .before .before .before .before .before .before .before .put-text2 .ensures))
+    (kept _ _ _ 20 (c .before .before .before .before .before .before .before .put-text3 .ensures))))
+    (c .before .before .keep .ensures)
+
+pub put-party-spec : {M : Type 1} → statement M
+put-party-spec =
+    tie.close
+    (tie.spec
+    put-text-requires
+    put-text-requires-2
+    put-text-requires-3
+    slice-aggregate-keep
+    keep-requires
+    same-length
+    same-length-2
+    returns)
