@@ -1,25 +1,22 @@
 -- What a place and a field are to each other, to the message and to its record: the value is the end of its line, and the line is
 -- the one that the message's sheet has for the slot.
 -- Assumes nothing.
-use Prim.Native.Nat.{ℕ, suc, _+_, _-_, _≤_, _<_}
+use Prim.Native.Nat.{ℕ, zero, suc, _+_, _-_, _≤_, _<_}
 use mathlib.Core.Path.{_≡_, refl, sym, ap, _∙_, subst}
 use mathlib.Core.Bool.{Bool, true, false, cond, true≢false}
 use mathlib.Core.List.{List, [], _∷_}
 use mathlib.Core.Logic.{_⊎_, inl, inr}
 use native.Mathlib.Nat.{add-zero}
-use native.Mathlib.Numerals.{add-one}
 use native.Mathlib.Omega.{arith}
 use lib.Dec.{leb, eqb}
-use lib.ListN.{length, take, drop, getD, length-take, length-drop}
-use lib.Seq.{drop-drop, getD-drop}
-use borrow.Author.Tests.{eq-eqb, ne-eqb, eqb-true, leb-true, leb-false}
+use lib.ListN.{length, take, drop, length-take, length-drop}
+use lib.Seq.{drop-drop}
+use borrow.Author.Tests.{ne-eqb, eqb-true, leb-true}
 use Rattle.text.specs.Bytes.{bytes, begins}
 use Rattle.text.specs.Classes.{isBetween}
 use Rattle.text.proofs.Laws.{and-left, and-right}
-use Rattle.lines.specs.Lines.{linesOf, lineAt, startBehind, endOf}
-use Rattle.lines.proofs.Laws.{begins as begun}
-use Rattle.layout.specs.Layout.{Taken, taken, stepOf, runOf, marked}
-use Rattle.layout.specs.declared.Place.{Place}
+use Rattle.lines.specs.Lines.{endOf}
+use Rattle.layout.specs.Layout.{Taken}
 use Rattle.sheets.specs.Sheets.{Entry, edge, held, come, has, takenIn as takenOf}
 use Rattle.sheets.specs.Filled.{valueIn}
 use Rattle.sheets.proofs.Small.{is-false, of-both, or-one, or-left, or-right, or-case}
@@ -29,120 +26,68 @@ use Rattle.sheets.proofs.Once.{slotsHeld}
 use Rattle.sheets.proofs.Musts.{musts, come-held}
 use Rattle.table.specs.Table.{table, fixedOf}
 use Rattle.table.specs.Tree.{tree, general, pool, details}
-use Rattle.walk.specs.Walk.{takenIn}
-use Rattle.mt515.specs.Body.{lineOf}
+use Rattle.mt515.specs.Body.{bodyOf}
 use Rattle.mt515.specs.Reading.{readOf}
-use Rattle.mt515.proofs.Heads.{lined, between-is}
-use Rattle.walk.proofs.Laws.{to-end}
+use Rattle.walk.proofs.Laws.{drop-front, Stands, Standing, standing}
 use Rattle.demands.specs.Lawful.{saidIn, Lawful}
-use Rattle.demands.proofs.Holds.{valued-at, not-header, no-length}
+use Rattle.demands.proofs.Holds.{valued-at, not-header}
 use Rattle.demands.proofs.Accepting.{body-taken}
 use Rattle.demands.proofs.Demands.{demands}
 use Rattle.field.specs.Field.{noLine, takenFor, asked, lineFor, frontOf, fieldOf, placeOf}
 use Rattle.field.specs.Finding.{nowhere, IsPart, IsRead, IsToldBehind, NoneRefused, NoneUnnamed, NoneAbsent, Finding}
 use Rattle.field.specs.declared.Stretch.{Stretch}
 use Rattle.field.proofs.Values.{told, told-begins, behind-front}
-use Rattle.field.proofs.Steps.{next, place-is, field-is, place-none, field-none, not-asked, refused-none, unnamed-none, asked-of, is-named, accepted, line-is, top, none-seen, body-run}
+use Rattle.field.proofs.Steps.{field-is, place-none, field-none, refused-none, unnamed-none, asked-of, is-named, line-is}
 
 -- ---- a field is a part of its message
 
--- the end of a line, from behind some of its bytes
-module _ (m : List ℕ) (at end k : ℕ) (h : at ≤ end) (g : end ≤ length m) where
-  abbrev v : List ℕ
-  v = drop k (take (end - at) (drop at m))
+-- the line of a slot is one of those that were taken, and stands in the message; or it is no line
+stood : (m : List ℕ) (slot : ℕ) (ts : List Taken) → Standing m ts → (takenFor slot ts ≡ noLine) ⊎ Stands m (takenFor slot ts)
+unfolding takenFor Standing
+stood m slot [] h = inl refl
+stood m slot (t ∷ ts) h = of-both (λ (x : Taken). (x ≡ noLine) ⊎ Stands m x) (eqb (t .slot) slot) (λ e. inr (h .0)) (λ e. stood m slot ts (h .1))
 
-  long : length v ≡ end - at - k
-  long =
-      let a = length-take (end - at) (drop at m) in
-      let b = length-drop at m in
-      length-drop k (take (end - at) (drop at m)) ∙ omega arith
-
-  end-within : length (drop k (take (end - at) (drop at m))) ≤ end
-  end-within = let l = long in omega arith
-
-  end-part : take (length (drop k (take (end - at) (drop at m)))) (drop (end - length (drop k (take (end - at) (drop at m)))) m) ≡ drop k (take (end - at) (drop at m))
-  end-part = go (leb (at + k) end) refl
-    where
-      go : (t : Bool) → leb (at + k) end ≡ t → take (length v) (drop (end - length v) m) ≡ v
-      go true t =
-          let l = long in
-          let i : at + k ≤ end = leb-true (at + k) end t in
-          let o : end - length v ≡ at + k = omega arith in
-          let n : length v ≡ end - (at + k) = omega arith in
-          rw (o, n) (sym (between-is m (at + k) end i g) ∙ to-end m at end k h g)
-      go false t =
-          let l = long in
-          let i : end < at + k = leb-false (at + k) end t in
-          let n : v ≡ [] = no-length v (eq-eqb (length v) 0 (omega arith)) in
-          rw n
-
--- a line that was taken is one of the message's, and its value the end of that line; or it is no line
-record Stood (m : List ℕ) (t : Taken) : Type 0 where
-  before : ℕ
-  width : ℕ
-  counted : t .line ≡ suc before
-  ends : t .value ≡ drop width (lineOf m before)
-
-front-line : (m l : List ℕ) (n : ℕ) (ls : List (List ℕ)) → l ∷ ls ≡ drop n (linesOf m) → (l ≡ lineOf m n) × (ls ≡ drop (suc n) (linesOf m))
-unfolding lineOf
-front-line m l n ls e = (
-  ap (λ (x : List (List ℕ)). getD x 0 []) e ∙ getD-drop n (linesOf m) 0 [] ∙ ap (λ (i : ℕ). getD (linesOf m) i []) (add-zero n),
-  ap (drop 1) e ∙ drop-drop 1 n (linesOf m) ∙ ap (λ (i : ℕ). drop i (linesOf m)) (add-one n),
-)
-
-stood-in : (m : List ℕ) (slot : ℕ) (ls : List (List ℕ)) (here : Place) (seen : List ℕ) (n : ℕ) (ts : List Taken) → ls ≡ drop n (linesOf m)
-    → runOf table here seen (suc n) ls ≡ taken ts → (takenFor slot ts ≡ noLine) ⊎ Stood m (takenFor slot ts)
-unfolding runOf takenFor takenIn
-stood-in m slot [] here seen n ts e r = let q : [] ≡ ts = ap takenIn r in inl (rw (← q))
-stood-in m slot (l ∷ ls) here seen n ts e r =
-    let step = stepOf table here seen l in
-    let rest = runOf table (step .place) (marked seen step) (suc (suc n)) ls in
-    let (us, q, p) = next (suc n) l step rest ts r in
-    let (f, g) = front-line m l n ls e in
-    let ih = stood-in m slot ls (step .place) (marked seen step) (suc n) us g q in
-    let t : Taken = record { slot = step .slot; line = suc n; value = drop (step .width) l } in
-    let this : Stood m t = record { before = n; width = step .width; counted = refl; ends = rw f } in
-    let P : Taken → Type 0 = λ (x : Taken). (x ≡ noLine) ⊎ Stood m x in
-    rw p (of-both (λ (x : List Taken). P (takenFor slot x)) (eqb (step .slot) 0) (λ z. ih) (λ z. of-both P (eqb (step .slot) slot) (λ y. inr this) (λ y. ih)))
-
-line-stood : (m : List ℕ) (slot : ℕ) → (lineFor m slot ≡ noLine) ⊎ Stood m (lineFor m slot)
-line-stood m slot = go (asked m slot) refl
-  where
-    go : (b : Bool) → asked m slot ≡ b → (lineFor m slot ≡ noLine) ⊎ Stood m (lineFor m slot)
-    go false h = inl (not-asked m slot h)
-    go true h =
-        let w = demands .accepts-lawful m .0 (accepted m slot h) in
-        let b = body-taken m (w .sheet) (w .laid) (w .lines) in
-        let ts = takenOf 5 (w .sheet) in
-        subst (λ (x : Taken). (x ≡ noLine) ⊎ Stood m x) (line-is m slot h ts b)
-        (stood-in m slot (drop 4 (linesOf m)) top none-seen 4 ts refl (body-run m (drop 4 (linesOf m)) refl ∙ b))
+line-stood : (m : List ℕ) (slot : ℕ) → (lineFor m slot ≡ noLine) ⊎ Stands m (lineFor m slot)
+unfolding lineFor bodyOf
+line-stood m slot = of-both (λ (x : Taken). (x ≡ noLine) ⊎ Stands m x) (asked m slot) (λ e. stood m slot _ (standing m table)) (λ e. inl refl)
 
 -- a stretch of a message, and what stands there
 PartOf : List ℕ → List ℕ → Stretch → Type 0
 PartOf m v s = (s .offset + s .count ≤ length m) × (take (s .count) (drop (s .offset) m) ≡ v)
 
-stood-part : (m : List ℕ) (slot : ℕ) → Stood m (lineFor m slot) → PartOf m (fieldOf m slot) (placeOf m slot)
-unfolding PartOf endOf
+-- what is left of a list is its end
+tail : (i : ℕ) (y : List ℕ) → drop (length y - length (drop i y)) y ≡ drop i y
+tail zero y = let n : length y - length y ≡ 0 = omega arith in rw n
+tail (suc i) [] = refl
+tail (suc i) (b ∷ y) =
+    let l = length-drop i y in
+    let n : suc (length y) - length (drop i y) ≡ suc (length y - length (drop i y)) = omega arith in
+    rw n (tail i y)
+
+stood-part : (m : List ℕ) (slot : ℕ) → Stands m (lineFor m slot) → PartOf m (fieldOf m slot) (placeOf m slot)
+unfolding PartOf placeOf fieldOf
 stood-part m slot d =
-    let n : ℕ = d .before in
-    let at : ℕ = startBehind m n in
-    let end : ℕ = lineAt m at .end in
-    let b = begun m n in
-    let p = lined m n at (lineAt m at) refl (b .within) (b .rest) in
-    let k : ℕ = d .width + frontOf slot in
-    let f : drop k (take (end - at) (drop at m)) ≡ fieldOf m slot =
-    rw (p .here) (sym (drop-drop (frontOf slot) (d .width) (lineOf m n)) ∙ ap (drop (frontOf slot)) (sym (d .ends)) ∙ field-is m slot (lineFor m slot) refl)
-    in let within : length (fieldOf m slot) ≤ end = rw f at (end-within m at end k (p .starts) (p .stops))
-    in let part : take (length (fieldOf m slot)) (drop (end - length (fieldOf m slot)) m) ≡ fieldOf m slot = rw f at (end-part m at end k (p .starts) (p .stops))
-    in subst (PartOf m (fieldOf m slot))
-    (place-is m slot (readOf m .number) (lineFor m slot) (end - length (fieldOf m slot)) (length (fieldOf m slot)) refl refl (ap length (field-is m slot (lineFor m slot) refl)) (rw (d .counted)))
-    (let s = p .stops in omega arith, part)
+    let t : Taken = lineFor m slot in
+    let end : ℕ = endOf m (t .line) in
+    let y : List ℕ = take end m in
+    let i : ℕ = end - length (t .value) + frontOf slot in
+    let v : List ℕ = drop (frontOf slot) (t .value) in
+    let a = d .within in
+    let b = d .long in
+    let short = length-drop (frontOf slot) (t .value) in
+    let size : length y ≡ end = rw length-take (omega arith) in
+    let is : drop i y ≡ v = sym (drop-drop (frontOf slot) (end - length (t .value)) y) ∙ ap (drop (frontOf slot)) (d .here) in
+    let same = ap length is in
+    let from : length y - length (drop i y) ≡ end - length v = omega arith in
+    let last : drop (end - length v) y ≡ v = ap (λ (k : ℕ). drop k y) (sym from) ∙ tail i y ∙ is in
+    let n : end - (end - length v) ≡ length v = omega arith in
+    (omega arith, ap (λ (k : ℕ). take k (drop (end - length v) m)) (sym n) ∙ sym (drop-front (end - length v) end m) ∙ last)
 
 is-part-of : (m : List ℕ) (slot : ℕ) → PartOf m (fieldOf m slot) (placeOf m slot)
 unfolding PartOf
 is-part-of m slot = go (line-stood m slot)
   where
-    go : (lineFor m slot ≡ noLine) ⊎ Stood m (lineFor m slot) → PartOf m (fieldOf m slot) (placeOf m slot)
+    go : (lineFor m slot ≡ noLine) ⊎ Stands m (lineFor m slot) → PartOf m (fieldOf m slot) (placeOf m slot)
     go (inl e) = subst (PartOf m (fieldOf m slot)) (place-none m slot (readOf m .number) refl e) (omega arith, sym (field-none m slot e))
     go (inr d) = stood-part m slot d
 

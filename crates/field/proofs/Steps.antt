@@ -59,7 +59,7 @@ module _ (n : ℕ) (l : List ℕ) (step : Step) (rest : Run) (ts : List Taken) (
   abbrev pub t : Taken
   t = record { slot = step .slot; line = n; value = drop (step .width) l }
 
-  pub next : (us : List Taken) × (rest ≡ taken us) × (ts ≡ cond (eqb (step .slot) 0) us (t ∷ us))
+  next : (us : List Taken) × (rest ≡ taken us) × (ts ≡ cond (eqb (step .slot) 0) us (t ∷ us))
   unfolding behind isTaken
   next = go (eqb (step .number) 0) (eqb (step .slot) 0) h
     where
@@ -190,7 +190,7 @@ top = record { row = 0; back = 0 }
 abbrev pub none-seen : List ℕ
 none-seen = replicate {A = ℕ} 32 0
 
-pub body-run : (m : List ℕ) (ls : List (List ℕ)) → ls ≡ drop 4 (linesOf m) → runOf table top none-seen 5 ls ≡ bodyOf m
+body-run : (m : List ℕ) (ls : List (List ℕ)) → ls ≡ drop 4 (linesOf m) → runOf table top none-seen 5 ls ≡ bodyOf m
 unfolding bodyOf layoutOf
 body-run m ls e = ap (runOf table top none-seen 5) e
 

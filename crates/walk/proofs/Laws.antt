@@ -21,36 +21,38 @@ use Rattle.layout.proofs.Laws.{takes-within}
 use Rattle.walk.specs.Walk.{takenIn, valueFrom, startsOf, endsOf, walkOf}
 use Rattle.walk.specs.declared.Body.{Body}
 
--- ---- parts of a line that runs from one place of a message to another
+-- ---- parts of a message
 
-drop-front : (k n : ℕ) (y : List ℕ) → drop k (take n y) ≡ take (n - k) (drop k y)
+-- what is left of the front of a list
+pub drop-front : (k n : ℕ) (y : List ℕ) → drop k (take n y) ≡ take (n - k) (drop k y)
 drop-front zero n y = rw sub-zero
 drop-front (suc k) zero y = rw zero-sub
 drop-front (suc k) (suc n) [] = sym (take-nil (suc n - suc k))
 drop-front (suc k) (suc n) (b ∷ y) = drop-front k n y ∙ rw suc-sub-suc
 
-module _ (m : List ℕ) (at stop k : ℕ) where
-  -- what is left of the line behind some of its bytes
-  pub drop-take : drop k (take (stop - at) (drop at m)) ≡ take (stop - (at + k)) (drop (at + k) m)
-  drop-take = let n : stop - at - k ≡ stop - (at + k) = omega arith in drop-front k (stop - at) (drop at m) ∙ rw (n, drop-drop k at m)
+-- what is left of a line, from one place to another, behind some of its bytes
+pub drop-take : (m : List ℕ) (at stop k : ℕ) → drop k (take (stop - at) (drop at m)) ≡ take (stop - (at + k)) (drop (at + k) m)
+drop-take m at stop k = let n : stop - at - k ≡ stop - (at + k) = omega arith in drop-front k (stop - at) (drop at m) ∙ rw (n, drop-drop k at m)
 
-  pub to-end : at ≤ stop → stop ≤ length m → between m (at + k) stop ≡ drop k (take (stop - at) (drop at m))
-  unfolding between
-  to-end h g = go (leb (at + k) stop) refl
-    where
-      go : (t : Bool) → leb (at + k) stop ≡ t → cond (t && leb stop (length m)) (take (stop - (at + k)) (drop (at + k) m)) [] ≡ drop k (take (stop - at) (drop at m))
-      go true e = rw (le-leb stop (length m) g) (sym drop-take)
-      go false e =
-          let f : stop < at + k = leb-false (at + k) stop e in
-          let l : length (take (stop - at) (drop at m)) ≤ k = rw (length-take, length-drop) (omega arith) in
-          sym (drop-of-length-le (take (stop - at) (drop at m)) l)
+between-is : (m : List ℕ) (from to : ℕ) → to ≤ length m → between m from to ≡ drop from (take to m)
+unfolding between
+between-is m from to h = go (leb from to) refl
+  where
+    go : (t : Bool) → leb from to ≡ t → cond (t && leb to (length m)) (take (to - from) (drop from m)) [] ≡ drop from (take to m)
+    go true e = rw (le-leb to (length m) h) (sym (drop-front from to m))
+    go false e =
+        let f : to < from = leb-false from to e in
+        let l : length (take to m) ≤ from = rw length-take (omega arith) in
+        sym (drop-of-length-le (take to m) l)
 
 -- ---- the value of a line that was taken is the end of that line's text
 
-abbrev Stands : List ℕ → Taken → Type 0
-Stands m t = (j : ℕ) → between m (endOf m (t .line) - length (t .value) + j) (endOf m (t .line)) ≡ drop j (t .value)
+pub record Stands (m : List ℕ) (t : Taken) : Type 0 where
+  pub within : endOf m (t .line) ≤ length m
+  pub long : length (t .value) ≤ endOf m (t .line)
+  pub here : drop (endOf m (t .line) - length (t .value)) (take (endOf m (t .line)) m) ≡ t .value
 
-unfoldable Standing : List ℕ → List Taken → Type 0
+unfoldable pub Standing : List ℕ → List Taken → Type 0
 Standing m [] = Unit
 Standing m (t ∷ ts) = Stands m t × Standing m ts
 
@@ -88,15 +90,17 @@ first m k l ls e = go (ltb (startBehind m k) (length m)) refl
 
 module _ (m : List ℕ) (table : List Row) where
   stands : (k slot w : ℕ) (l : List ℕ) (ls : List (List ℕ)) → First m k l ls → w ≤ length l → Stands m (record { slot = slot; line = suc k; value = drop w l })
-  stands k slot w l ls f h j =
+  stands k slot w l ls f h =
       let at : ℕ = startBehind m k in
       let stop : ℕ = endOf m (suc k) in
       let a = f .from in
       let b = f .to in
-      let long : length l ≡ stop - at = ap length (f .text) ∙ length-take (stop - at) (drop at m) ∙ (let d = length-drop at m in omega arith) in
+      let text : l ≡ drop at (take stop m) = f .text ∙ sym (drop-front at stop m) in
+      let size : length (take stop m) ≡ stop = rw length-take (omega arith) in
+      let long : length l ≡ stop - at = ap length text ∙ length-drop at (take stop m) ∙ (let d = size in omega arith) in
       let v = length-drop w l in
-      let begun : stop - length (drop w l) + j ≡ at + (w + j) = omega arith in
-      rw begun (to-end m at stop (w + j) a b ∙ ap (drop (w + j)) (sym (f .text)) ∙ sym (drop-drop j w l))
+      let begun : stop - length (drop w l) ≡ at + w = omega arith in
+      record { within = b; long = omega arith; here = rw begun (sym (drop-drop w at (take stop m)) ∙ ap (drop w) (sym text)) }
 
   stand-in : (ls : List (List ℕ)) (here : Place) (seen : List ℕ) (k : ℕ) → ls ≡ linesOf (drop (startBehind m k) m) → Standing m (takenIn (runOf table here seen (suc k) ls))
   unfolding runOf behind takenIn Standing
@@ -110,7 +114,7 @@ module _ (m : List ℕ) (table : List Row) where
       (of-both P (eqb (step .slot) 0) ih (with-standing m _ _ (stands k (step .slot) (step .width) l ls f (takes-within table here seen l)) ih))
       tt
 
-  standing : Standing m (takenIn (layoutOf table 5 (drop 4 (linesOf m))))
+  pub standing : Standing m (takenIn (layoutOf table 5 (drop 4 (linesOf m))))
   unfolding layoutOf
   standing = stand-in (drop 4 (linesOf m)) (record { row = 0; back = 0 }) (replicate {A = ℕ} 32 0) 4 (sym (begins m 4 .rest))
 
@@ -139,7 +143,10 @@ module _ (slotOf : ℕ → Slot) (m : List ℕ) (s : ℕ) where
       go : (b : Bool) → eqb (t .slot) s ≡ b
           → cond b (between m (endOf m (t .line) - length (t .value) + length (slotOf (t .slot) .fixed)) (endOf m (t .line))) (stretchOf m starts ends s)
           ≡ cond b (drop (length (slotOf s .fixed)) (t .value)) (stretchOf m starts ends s)
-      go true e = h (length (slotOf (t .slot) .fixed)) ∙ ap (λ (i : ℕ). drop (length (slotOf i .fixed)) (t .value)) (eqb-true (t .slot) s e)
+      go true e =
+          let j : ℕ = length (slotOf (t .slot) .fixed) in
+          between-is m _ (endOf m (t .line)) (h .within) ∙ sym (drop-drop j (endOf m (t .line) - length (t .value)) (take (endOf m (t .line)) m))
+          ∙ ap (drop j) (h .here) ∙ ap (λ (i : ℕ). drop (length (slotOf i .fixed)) (t .value)) (eqb-true (t .slot) s e)
       go false e = refl
 
   stretches-are : (ts : List Taken) (starts ends : List ℕ) → Standing m ts → s < length starts → s < length ends

@@ -1,7 +1,8 @@
 -- `walk::keep` meets its contract: a fixed text is short, so that the place behind it is one. Assumes nothing.
-use mathlib.Core.Path.{ap}
+use Prim.Native.Nat.{_≤_}
 use lib.ListN.{length}
 use native.Mathlib.Omega.{arith}
+use denote.Ref.{now}
 use borrow.Author.Tests.{eq-eqb, ne-eqb}
 use Rattle.forms.proofs.Laws.{fixed-short}
 use borrow.Author.Needs.{needs}
@@ -16,8 +17,8 @@ fixed-text-requires c κs = search needs
 
 add-keep : tie.Need-add-keep
 add-keep c =
-    let s = c .before .before .before .before .before .before in
-    omega (arith, ap length (c .fixed-text .ensures), fixed-short (s .args .slots .now) (s .args .slot), s .pre)
+    let short : length (now (c .fixed-text .result)) ≤ 12 = rw (c .fixed-text .ensures) (fixed-short _ _) in
+    omega (arith, short, c .before .before .before .before .before .before .pre)
 
 keep-requires : tie.Need-keep-requires
 keep-requires c κs = search needs
