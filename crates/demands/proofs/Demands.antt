@@ -26,6 +26,7 @@ use Rattle.message.specs.Writing.{writeNumber, writeLength, writtenOver, writab
 use Rattle.message.specs.Cases.{broadest, writes}
 use Rattle.message.proofs.Cases.{answered}
 use Rattle.message.proofs.Lengths.{message-most}
+use Rattle.message.proofs.Writes.{writable-judged}
 use Rattle.demands.specs.Lawful.{saidIn, Lawful}
 use Rattle.demands.specs.Pieces.{pieces, together}
 use Rattle.demands.specs.Demands.{Accepted, recordOf, accepts, AllWritable, written, Demands}
@@ -37,14 +38,6 @@ use Rattle.demands.proofs.Round.{written-read}
 use Rattle.demands.proofs.Whole.{whole-for}
 
 -- ---- writable is judged 0
-
-writable-judged : (t : Trade) → writable t ≡ true → judgeOf t ≡ 0
-unfolding writable writeNumber
-writable-judged t h = on (eqb (judgeOf t) 0) refl (eqb-true _ 0 h)
-  where
-    on : (b : Bool) → eqb (judgeOf t) 0 ≡ b → cond b (cond (ltb 822 (length (messageOf t))) 19 0) (judgeOf t) ≡ 0 → judgeOf t ≡ 0
-    on true e q = eqb-true (judgeOf t) 0 e
-    on false e q = q
 
 room-takes : (t : Trade) (room : ℕ) → judgeOf t ≡ 0 → length (messageOf t) ≤ room → writeNumber t room ≡ 0
 unfolding writeNumber

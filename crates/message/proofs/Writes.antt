@@ -5,9 +5,9 @@ use mathlib.Core.Path.{_≡_, refl, sym, ap, fun-ext, _∙_}
 use mathlib.Core.Bool.{Bool, true, false, _&&_, cond, and-false}
 use mathlib.Core.List.{List, [], _∷_, _++_, append-assoc}
 use native.Mathlib.Omega.{arith}
-use lib.Dec.{leb, eqb}
+use lib.Dec.{leb, ltb, eqb}
 use lib.ListN.{length, take, drop}
-use borrow.Author.Tests.{le-leb, ne-eqb, lt-ltb, le-ltb}
+use borrow.Author.Tests.{le-leb, ne-eqb, lt-ltb, le-ltb, eqb-true}
 use Rattle.text.specs.Bytes.{bytes}
 use Rattle.text.specs.Texts.{contents}
 use Rattle.text.specs.Copy.{fits, placed}
@@ -31,7 +31,7 @@ use Rattle.values.specs.Places.{ends}
 use Rattle.values.proofs.Places.{stretch-held}
 use Rattle.judge.specs.Judging.{judgeOf}
 use Rattle.message.specs.Messages.{behindKey, headerOf, linesFor, messageOf}
-use Rattle.message.specs.Writing.{writeNumber, writeLength, writingOf, writtenOver}
+use Rattle.message.specs.Writing.{writeNumber, writeLength, writingOf, writtenOver, writable}
 
 -- ---- the parts of a message
 
@@ -123,3 +123,13 @@ module _ (t : Trade) (buf : List ℕ) where
     written h now p =
         let f : leb (0 + length (messageOf t)) (length buf) ≡ true = le-leb (0 + length (messageOf t)) (length buf) (omega arith) in
         rw (good, ← e, le-ltb (length buf) r h) (refl, p ∙ rw (f))
+
+-- ---- a record that may be written is judged 0
+
+pub writable-judged : (t : Trade) → writable t ≡ true → judgeOf t ≡ 0
+unfolding writable writeNumber
+writable-judged t h = on (eqb (judgeOf t) 0) refl (eqb-true _ 0 h)
+  where
+    on : (b : Bool) → eqb (judgeOf t) 0 ≡ b → cond b (cond (ltb 822 (length (messageOf t))) 19 0) (judgeOf t) ≡ 0 → judgeOf t ≡ 0
+    on true e q = eqb-true (judgeOf t) 0 e
+    on false e q = q

@@ -1,12 +1,11 @@
 -- The mathematics of the crate's functions, over plain lists and numbers: code words by their places, and the record from its
 -- fields.
 -- Assumes nothing.
-use Prim.Native.Nat.{ℕ, zero, suc, _<_}
-use mathlib.Core.Path.{_≡_, refl, sym, _∙_}
+use Prim.Native.Nat.{ℕ}
+use mathlib.Core.Path.{_≡_, refl, _∙_}
 use mathlib.Core.List.{List, [], _∷_}
-use native.Mathlib.Nat.{le-of-suc-le-suc, zero-lt-suc}
 use native.Mathlib.Omega.{arith}
-use lib.ListN.{length, getD, List·getD-eq-default}
+use lib.ListN.{getD}
 use Rattle.text.specs.Bytes.{bytes, parts}
 use Rattle.text.specs.Texts.{textOf}
 use Rattle.amount.specs.Amounts.{amountRead}
@@ -21,13 +20,9 @@ use Rattle.trade.specs.declared.Kind.{Kind}
 use Rattle.trade.specs.declared.Side.{Side}
 use Rattle.trade.specs.declared.Service.{Service}
 use Rattle.trade.specs.declared.Trade.{Trade}
+use Rattle.trade.proofs.Laws.{first-else}
 
 -- ---- code words by their places
-
--- the first of a list answers for 0 and for every place behind the others
-first-else : {T : Type 0} (first : T) (others : List T) (place : ℕ) → (0 < place → length others < place) → first ≡ getD (first ∷ others) place first
-first-else first others zero h = refl
-first-else first others (suc n) h = sym (List·getD-eq-default others first (le-of-suc-le-suc (h (zero-lt-suc n))))
 
 module _ (v : List ℕ) (k : ℕ) (e : k ≡ wordAt (wordsOf (bytes "INSTCANCMDFCTDDK")) v) where
   pub kind-is : (n : ℕ) → k ≡ n → getD (Kind.Inst ∷ Kind.Canc ∷ Kind.Mdfc ∷ Kind.Tddk ∷ []) n Kind.Inst ≡ kindIn v

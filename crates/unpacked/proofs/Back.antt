@@ -30,9 +30,8 @@ use Rattle.judge.specs.Judging.{judgeOf}
 use Rattle.judge.specs.Cases.{cases}
 use Rattle.judge.proofs.Laws.{judge-zero}
 use Rattle.judge.proofs.Cases.{answered}
-use Rattle.message.specs.Messages.{messageOf}
-use Rattle.message.specs.Writing.{writeNumber, writable, writingOf, writtenOver}
-use Rattle.message.proofs.Writes.{judged}
+use Rattle.message.specs.Writing.{writable, writingOf, writtenOver}
+use Rattle.message.proofs.Writes.{judged, writable-judged}
 use Rattle.packed.specs.Packed.{atMost, kindByte, sideByte, serviceByte, periodByte, codes, texts, textBytes, momentNumber, numbers, numberBytes, inRow, packedOf}
 use Rattle.unpacked.specs.Unpacked.{named, kindFrom, sideFrom, serviceFrom, periodFrom, textFrom, numberFrom, momentFrom, textsIn, numbersIn, tradeFrom, tradeIn, unpackedOf}
 use Rattle.unpacked.specs.Back.{textFits, periodFits, momentFits, numberFits, fits, byteFits, Back, Fits, Again, Apart, Refused, Lossless}
@@ -325,14 +324,6 @@ module _ (t : Trade) (e : inForm t ≡ true) where
       (and-both form-numbers
       (and-both (period-fits (t .period) (and-left _ _ (at 21)))
       (and-both (prep-fits (t .prep) (at 3)) (moment-fits (t .trad) (at 7)))))
-
-writable-judged : (t : Trade) → writable t ≡ true → judgeOf t ≡ 0
-unfolding writable writeNumber
-writable-judged t h = on (eqb (judgeOf t) 0) refl (eqb-true _ 0 h)
-  where
-    on : (b : Bool) → eqb (judgeOf t) 0 ≡ b → cond b (cond (ltb 822 (length (messageOf t))) 19 0) (judgeOf t) ≡ 0 → judgeOf t ≡ 0
-    on true e q = eqb-true (judgeOf t) 0 e
-    on false e q = q
 
 writable-fits : (t : Trade) → writable t ≡ true → fits t ≡ true
 writable-fits t h = form-all t (judge-zero t (writable-judged t h) .0)

@@ -1,26 +1,19 @@
--- The mathematics of the crate's functions: code bytes, and what each turn of a loop leaves.
+-- The mathematics of the crate's functions: what each turn of a loop leaves.
 -- Assumes nothing.
 use Prim.Native.Nat.{ℕ, zero, suc, _+_, _-_, _*_, _^_, _≤_, _<_}
 use mathlib.Core.Path.{_≡_, refl, sym, ap, _∙_}
 use mathlib.Core.List.{List, [], _∷_, map}
-use native.Mathlib.Nat.{add-zero, zero-lt-suc, le-of-suc-le-suc, pow-suc, pow-le-pow-right}
+use native.Mathlib.Nat.{add-zero, pow-suc, pow-le-pow-right}
 use native.Mathlib.Numerals.{add-one}
 use native.Mathlib.Omega.{arith}
 use lib.Arith.{digits-lt}
 use lib.Dec.{lit<}
-use lib.ListN.{length, take, drop, getD, set, replicate, length-take, length-drop, length-map, drop-of-length-le, List·getD-eq-default, List·getD-map}
+use lib.ListN.{length, take, drop, getD, set, replicate, length-take, length-drop, length-map, drop-of-length-le, List·getD-map}
 use lib.Seq.{take-suc, take-suc-set, take-all, drop-cons, drop-drop, getD-drop}
 use Rattle.text.specs.Bytes.{parts}
 use Rattle.text.specs.Copy.{placed}
 use Rattle.text.proofs.Laws.{rest-of, placed-all, parts-from, length-parts}
 use Rattle.unpacked.specs.Unpacked.{numberFrom}
-
--- ---- code bytes
-
--- the first of a list answers for 0 and for every place behind the others
-pub first-else : {T : Type 0} (first : T) (others : List T) (place : ℕ) → (0 < place → length others < place) → first ≡ getD (first ∷ others) place first
-first-else first others zero h = refl
-first-else first others (suc n) h = sym (List·getD-eq-default others first (le-of-suc-le-suc (h (zero-lt-suc n))))
 
 -- ---- a number from its bytes, the last first
 

@@ -3,7 +3,7 @@ use mathlib.Core.List.{[], _∷_}
 use native.Mathlib.Omega.{arith}
 use Rattle.trade.specs.declared.Side.{Side}
 use Rattle.unpacked.specs.Unpacked.{sideFrom}
-use Rattle.unpacked.proofs.Turns.{first-else}
+use Rattle.trade.proofs.Laws.{first-else}
 use Rattle.unpacked.proofs.codes.side_from.Statement.{statement}
 use Rattle.unpacked.proofs.codes.side_from.Tie as tie
 
