@@ -2,7 +2,8 @@
 --   4 of one byte      the kind, the side, the service and GUPP
 --   15 of 21 bytes     the texts, each its length and its twenty bytes
 --   7 of 8 bytes       the numbers, the least byte first
--- What is too great for its place is the most that the place holds. No record that may be written has such a field (unpacked's specs/Back).
+-- What is too great for its place is the most that the place holds. No record that may be written has such a field, and none that has
+-- one comes back as a record that may be written (unpacked's specs/Back).
 use Prim.Native.Nat.{ℕ, zero, suc, _+_, _*_, _/_, _%_}
 use mathlib.Core.Bool.{cond}
 use mathlib.Core.List.{List, [], _∷_, _++_, map}

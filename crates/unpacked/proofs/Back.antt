@@ -15,10 +15,10 @@ use Rattle.text.specs.declared.Text.{Text}
 use Rattle.text.proofs.Laws.{and-left, and-right, and-both, in-form-facts}
 use Rattle.amount.specs.Amounts.{inForm as amountForm}
 use Rattle.amount.specs.declared.Amount.{Amount}
-use Rattle.calendar.specs.Dates.{isDate, isTime, isMoment}
+use Rattle.calendar.specs.Dates.{isDate, isMoment}
 use Rattle.calendar.specs.declared.Moment.{Moment}
 use Rattle.calendar.proofs.Laws.{date-small, time-small}
-use Rattle.trade.specs.Records.{nobody, never, nought, blankTrade}
+use Rattle.trade.specs.Records.{blankTrade}
 use Rattle.trade.specs.declared.Kind.{Kind}
 use Rattle.trade.specs.declared.Side.{Side}
 use Rattle.trade.specs.declared.Service.{Service}
@@ -30,11 +30,11 @@ use Rattle.judge.specs.Judging.{judgeOf}
 use Rattle.judge.specs.Cases.{cases}
 use Rattle.judge.proofs.Laws.{judge-zero}
 use Rattle.judge.proofs.Cases.{answered}
-use Rattle.message.specs.Writing.{writable, writingOf, writtenOver}
-use Rattle.message.proofs.Writes.{judged, writable-judged}
-use Rattle.packed.specs.Packed.{atMost, kindByte, sideByte, serviceByte, periodByte, codes, texts, textBytes, momentNumber, numbers, numberBytes, inRow, packedOf}
+use Rattle.message.specs.Writing.{writable}
+use Rattle.message.proofs.Writes.{writable-judged}
+use Rattle.packed.specs.Packed.{kindByte, sideByte, serviceByte, periodByte, codes, texts, textBytes, momentNumber, numbers, numberBytes, inRow, packedOf}
 use Rattle.unpacked.specs.Unpacked.{named, kindFrom, sideFrom, serviceFrom, periodFrom, textFrom, numberFrom, momentFrom, textsIn, numbersIn, tradeFrom, tradeIn, unpackedOf}
-use Rattle.unpacked.specs.Back.{textFits, periodFits, momentFits, numberFits, fits, byteFits, Back, Fits, Again, Apart, Refused, Lossless}
+use Rattle.unpacked.specs.Back.{textFits, periodFits, momentFits, numberFits, fits, byteFits, Again}
 use Rattle.unpacked.specs.declared.Unpacked.{Unpacked}
 use Rattle.packed.proofs.Laws.{at-most-in, at-most-le, length-number}
 use Rattle.unpacked.proofs.Laws.{number-back, byte-small, bytes-take, bytes-drop, number-again, number-small, cut-row, length-row, row-parts, parts-again}
@@ -127,7 +127,7 @@ moment-back m e =
     let r : n % 1000000 ≡ m .time .0 = omega arith in
     rw (at-most-in 999999 (m .time .0) t, at-most-in 18446744073709551615 n h, d, r)
 
-moment-again : (n : ℕ) → n ≤ 18446744073709551615 → momentNumber (momentFrom n) ≡ n
+pub moment-again : (n : ℕ) → n ≤ 18446744073709551615 → momentNumber (momentFrom n) ≡ n
 unfolding momentFrom momentNumber
 moment-again n h =
     let t : n % 1000000 ≤ 999999 = omega arith in
@@ -325,12 +325,12 @@ module _ (t : Trade) (e : inForm t ≡ true) where
       (and-both (period-fits (t .period) (and-left _ _ (at 21)))
       (and-both (prep-fits (t .prep) (at 3)) (moment-fits (t .trad) (at 7)))))
 
-writable-fits : (t : Trade) → writable t ≡ true → fits t ≡ true
+pub writable-fits : (t : Trade) → writable t ≡ true → fits t ≡ true
 writable-fits t h = form-all t (judge-zero t (writable-judged t h) .0)
 
 -- ---- bytes that are no record
 
-blank-judged : 18 ≡ judgeOf blankTrade
+pub blank-judged : 18 ≡ judgeOf blankTrade
 unfolding cases
 blank-judged = sym (ap (λ (l : List ℕ). getD l 1 0) answered)
 
@@ -348,7 +348,7 @@ good-named s g = go (named s) refl g
     go true e q = (e, refl)
     go false e q = absurd (true≢false (sym q))
 
-packs-all : Again
+pub packs-all : Again
 packs-all (a ∷ b ∷ c ∷ d ∷ r) l e g =
     let n = good-named (a ∷ b ∷ c ∷ d ∷ r) g in
     ap packedOf (n .1) ∙ packs a b c d r (omega arith) e (n .0)
@@ -357,24 +357,10 @@ packs-all (a ∷ []) l e g = absurd (omega arith)
 packs-all (a ∷ b ∷ []) l e g = absurd (omega arith)
 packs-all (a ∷ b ∷ c ∷ []) l e g = absurd (omega arith)
 
-bad-blank : (s : List ℕ) → unpackedOf s .good ≡ false → unpackedOf s .trade ≡ blankTrade
+pub bad-blank : (s : List ℕ) → unpackedOf s .good ≡ false → unpackedOf s .trade ≡ blankTrade
 unfolding unpackedOf
 bad-blank s g = go (named s) g
   where
     go : (b : Bool) → either s b .good ≡ false → either s b .trade ≡ blankTrade
     go true q = absurd (true≢false q)
     go false q = refl
-
-pub lossless : Lossless
-unfolding fits textFits periodFits momentFits numberFits texts numbers momentNumber atMost hold nobody never nought blankTrade
-lossless =
-    record {
-      back = unpacks;
-      fit = (writable-fits, refl);
-      again = packs-all;
-      apart = λ t u h k e. ap (λ (r : Unpacked). r .trade) (sym (unpacks t (writable-fits t h)) ∙ ap unpackedOf e ∙ unpacks u (writable-fits u k));
-      refused = λ s buf g.
-          let b = bad-blank s g in
-          let j = judged blankTrade buf 18 blank-judged (λ z. let w : ⊥ = omega arith in w) in
-          rw b (sym (j .0), sym (j .1));
-    }
