@@ -146,6 +146,11 @@ module _ (s : ℕ) (k : List ℕ) where
       by-kind (λ m r. opener first r ≡ cond (isAny (6 ∷ 7 ∷ []) m) k first) s k refl refl refl refl refl refl refl refl refl refl
       (λ m h. rw (none-above (6 ∷ 7 ∷ []) m refl h)) n
 
+-- a row puts what stands behind its own slot, and no other's
+pub puts-of : (s : ℕ) (k : List ℕ) (parts : ℕ → List (List ℕ)) (first : List ℕ) (n : ℕ) → puts (λ (slot : ℕ). parts s) first (rowOf n 0 k) ≡ puts parts first (rowOf n s k)
+unfolding puts rowOf
+puts-of s k parts first n = puts-by 0 k (λ (slot : ℕ). parts s) first n ∙ sym (puts-by s k parts first n)
+
 -- ---- a row further
 
 -- a row of a table's bytes, by its kind, its slot and its text

@@ -1,11 +1,19 @@
 -- The walk of specs/Filling, a row at a time. It serves the private steps only, and need not be believed.
 use Prim.Native.Nat.{ℕ, _+_, _*_}
 use mathlib.Core.Bool.{Bool, _&&_, cond}
-use mathlib.Core.List.{List, []}
+use mathlib.Core.List.{List, [], _∷_}
 use lib.Dec.{eqb}
 use lib.ListN.{drop}
-use Rattle.layout.specs.Rows.{Row, textAt, firstRow, rowsOf}
+use Rattle.text.specs.Bytes.{bytes}
+use Rattle.layout.specs.Rows.{Row, rowOf, textAt, firstRow, rowsOf}
 use Rattle.fill.specs.Filling.{Lent, behindAt, partsAt, deeper, stands, opener, puts}
+
+-- the line of a slot: its text, its fixed text and its value; and what a row of a kind puts that has them
+abbrev pub held : List ℕ → List ℕ → List ℕ → List (List ℕ)
+held key front value = key ∷ front ∷ value ∷ bytes "\r\n" ∷ []
+
+abbrev pub putsOf : List ℕ → ℕ → List ℕ → List ℕ → List ℕ → List (List ℕ)
+putsOf first kind key front value = puts (λ (slot : ℕ). front ∷ value ∷ []) first (rowOf kind 0 key)
 
 unfoldable pub isOn : (ℕ → List ℕ) → ℕ → List Row → Row → Bool
 isOn value off rows r = eqb off 0 && stands value rows r

@@ -2,8 +2,8 @@
 //
 // The values are lent as reading keeps them: a text, and for each slot where its value begins and ends. With them a message type
 // lends the bytes of its table and of its slots, and the numbers of the slots that are optional; nothing here knows a record. All
-// are parameters of every step, since a struct of references is none of the forms that can be proved. What is right stands in
-// specs/Filling and specs/Runs; specs/Walks serves the steps in between.
+// are parameters wherever a slot is looked up, since a struct of references is none of the forms that can be proved. What is right
+// stands in specs/Filling and specs/Runs; specs/Walks serves the steps in between.
 mod parts;
 mod standing;
 
@@ -66,19 +66,9 @@ fn put_next<'a>(
     ) {
         let key = layout::row_text(rows, row);
         let first = layout::row_text(rows, here.many);
-        let at = parts::put_row(
-            buf,
-            here.at,
-            kind,
-            first,
-            key,
-            slot,
-            slots,
-            optional,
-            text,
-            starts,
-            ends,
-        );
+        let value = parts::value_of(text, starts, ends, slot);
+        let front = parts::front(slots, optional, slot, value.len());
+        let at = parts::put_row(buf, here.at, kind, first, key, front, value);
         return Walk { at, off: 0, many };
     }
     Walk {

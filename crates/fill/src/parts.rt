@@ -3,16 +3,28 @@ ghost use mathlib.Core.Path.{_≡_};
 ghost use mathlib.Core.List.{[], _∷_};
 ghost use mathlib.Core.Bool.{_&&_};
 ghost use lib.Dec.{eqb};
-ghost use Rattle.text.specs.Bytes.{bytes};
-ghost use Rattle.layout.specs.Rows.{rowOf};
+ghost use Rattle.stretches.specs.Stretches.{stretchOf};
 ghost use Rattle.fill.specs.Runs.{overRun, behindRun};
-ghost use Rattle.fill.specs.Filling.{lent, isAny, frontOf, partsAt, ended, heldParts, puts};
+ghost use Rattle.fill.specs.Filling.{isAny, frontOf, ended};
+ghost use Rattle.fill.specs.Walks.{held, putsOf};
 
 // A number is one of two.
 pub(crate) fn either(n: u8, a: u8, b: u8) -> bool
     ensures { λ r. ⌜ r ≡ isAny (a ∷ b ∷ []) n ⌝ }
 {
     (n == a) | (n == b)
+}
+
+// The value of a slot.
+pub(crate) fn value_of<'a, 'b>(
+    text: &'a [u8],
+    starts: &'b [usize],
+    ends: &'b [usize],
+    slot: u8,
+) -> &'a [u8]
+    ensures { λ r. ⌜ now r ≡ stretchOf (now (text .entry)) (now (starts .entry)) (now (ends .entry)) slot ⌝ }
+{
+    stretches::stretch(text, starts, ends, slot as usize)
 }
 
 // A slot is optional, and its value has no bytes.
@@ -48,9 +60,9 @@ fn put_edge(buf: &mut [u8], at: usize, key: &[u8]) -> usize
     text::put(buf, end, b"\r\n")
 }
 
-// A line by what it is made of.
+// The line of a slot: its text, the fixed text and the value.
 fn put_line(buf: &mut [u8], at: usize, key: &[u8], front: &[u8], value: &[u8]) -> usize
-    ensures { λ r. ⌜ (r ≡ behindRun (now (buf .entry)) at (now (key .entry) ∷ now (front .entry) ∷ now (value .entry) ∷ bytes "\r\n" ∷ [])) × (now (buf .exit) ≡ overRun (now (buf .entry)) at (now (key .entry) ∷ now (front .entry) ∷ now (value .entry) ∷ bytes "\r\n" ∷ [])) ⌝ }
+    ensures { λ r. ⌜ (r ≡ behindRun (now (buf .entry)) at (held (now (key .entry)) (now (front .entry)) (now (value .entry)))) × (now (buf .exit) ≡ overRun (now (buf .entry)) at (held (now (key .entry)) (now (front .entry)) (now (value .entry)))) ⌝ }
 {
     let fixed = text::put(buf, at, key);
     let from = text::put(buf, fixed, front);
@@ -58,62 +70,35 @@ fn put_line(buf: &mut [u8], at: usize, key: &[u8], front: &[u8], value: &[u8]) -
     text::put(buf, behind, b"\r\n")
 }
 
-// The line of a slot.
-fn put_held<'a>(
-    buf: &mut [u8],
-    at: usize,
-    key: &[u8],
-    slot: u8,
-    slots: &[u8],
-    optional: &[u8],
-    text: &[u8],
-    starts: &'a [usize],
-    ends: &'a [usize],
-) -> usize
-    ensures { λ r. ⌜ (r ≡ behindRun (now (buf .entry)) at (heldParts (partsAt (lent (now (slots .entry)) (now (optional .entry)) (now (text .entry)) (now (starts .entry)) (now (ends .entry)))) slot (now (key .entry)))) × (now (buf .exit) ≡ overRun (now (buf .entry)) at (heldParts (partsAt (lent (now (slots .entry)) (now (optional .entry)) (now (text .entry)) (now (starts .entry)) (now (ends .entry)))) slot (now (key .entry)))) ⌝ }
-{
-    let value = stretches::stretch(text, starts, ends, slot as usize);
-    let fixed = front(slots, optional, slot, value.len());
-    put_line(buf, at, key, fixed, value)
-}
-
 // The first lines of one of many blocks.
-fn put_mark<'a>(
+fn put_mark(
     buf: &mut [u8],
     at: usize,
     first: &[u8],
     key: &[u8],
-    slot: u8,
-    slots: &[u8],
-    optional: &[u8],
-    text: &[u8],
-    starts: &'a [usize],
-    ends: &'a [usize],
+    front: &[u8],
+    value: &[u8],
 ) -> usize
-    ensures { λ r. ⌜ (r ≡ behindRun (now (buf .entry)) at (puts (partsAt (lent (now (slots .entry)) (now (optional .entry)) (now (text .entry)) (now (starts .entry)) (now (ends .entry)))) (now (first .entry)) (rowOf 8 slot (now (key .entry))))) × (now (buf .exit) ≡ overRun (now (buf .entry)) at (puts (partsAt (lent (now (slots .entry)) (now (optional .entry)) (now (text .entry)) (now (starts .entry)) (now (ends .entry)))) (now (first .entry)) (rowOf 8 slot (now (key .entry))))) ⌝ }
+    ensures { λ r. ⌜ (r ≡ behindRun (now (buf .entry)) at (putsOf (now (first .entry)) 8 (now (key .entry)) (now (front .entry)) (now (value .entry)))) × (now (buf .exit) ≡ overRun (now (buf .entry)) at (putsOf (now (first .entry)) 8 (now (key .entry)) (now (front .entry)) (now (value .entry)))) ⌝ }
 {
     let from = put_edge(buf, at, first);
-    put_held(buf, from, key, slot, slots, optional, text, starts, ends)
+    put_line(buf, from, key, front, value)
 }
 
-// A row that stands, by its kind; `first` is the first line of the last many blocks.
-pub(crate) fn put_row<'a>(
+// A row that stands, by its kind: its text, and what stands behind that; `first` is the first line of the last many blocks.
+pub(crate) fn put_row(
     buf: &mut [u8],
     at: usize,
     kind: u8,
     first: &[u8],
     key: &[u8],
-    slot: u8,
-    slots: &[u8],
-    optional: &[u8],
-    text: &[u8],
-    starts: &'a [usize],
-    ends: &'a [usize],
+    front: &[u8],
+    value: &[u8],
 ) -> usize
-    ensures { λ r. ⌜ (r ≡ behindRun (now (buf .entry)) at (puts (partsAt (lent (now (slots .entry)) (now (optional .entry)) (now (text .entry)) (now (starts .entry)) (now (ends .entry)))) (now (first .entry)) (rowOf kind slot (now (key .entry))))) × (now (buf .exit) ≡ overRun (now (buf .entry)) at (puts (partsAt (lent (now (slots .entry)) (now (optional .entry)) (now (text .entry)) (now (starts .entry)) (now (ends .entry)))) (now (first .entry)) (rowOf kind slot (now (key .entry))))) ⌝ }
+    ensures { λ r. ⌜ (r ≡ behindRun (now (buf .entry)) at (putsOf (now (first .entry)) kind (now (key .entry)) (now (front .entry)) (now (value .entry)))) × (now (buf .exit) ≡ overRun (now (buf .entry)) at (putsOf (now (first .entry)) kind (now (key .entry)) (now (front .entry)) (now (value .entry)))) ⌝ }
 {
     if either(kind, 1, 2) {
-        return put_held(buf, at, key, slot, slots, optional, text, starts, ends);
+        return put_line(buf, at, key, front, value);
     }
     if either(kind, 3, 4) {
         return put_edge(buf, at, key);
@@ -122,18 +107,7 @@ pub(crate) fn put_row<'a>(
         return put_edge(buf, at, key);
     }
     if kind == 8 {
-        return put_mark(
-            buf,
-            at,
-            first,
-            key,
-            slot,
-            slots,
-            optional,
-            text,
-            starts,
-            ends,
-        );
+        return put_mark(buf, at, first, key, front, value);
     }
     at
 }

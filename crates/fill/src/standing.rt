@@ -44,7 +44,7 @@ fn is_there<'a>(
 ) -> bool
     ensures { λ r. ⌜ r ≡ some (behindAt (lent (now (slots .entry)) (now (optional .entry)) (now (text .entry)) (now (starts .entry)) (now (ends .entry))) slot) ⌝ }
 {
-    let value = stretches::stretch(text, starts, ends, slot as usize);
+    let value = parts::value_of(text, starts, ends, slot);
     if value.len() != 0 {
         return true;
     }

@@ -1,6 +1,6 @@
 -- `fill::put_next` meets its contract. Assumes nothing.
 use Rattle.fill.specs.Filling.{Lent, lent, behindAt, partsAt}
-use Rattle.fill.proofs.Turns.{next-on, next-past}
+use Rattle.fill.proofs.Turns.{puts-of, next-on, next-past}
 use borrow.Author.Needs.{needs}
 use Rattle.fill.proofs.put_next.Statement.{statement}
 use Rattle.fill.proofs.put_next.Tie as tie
@@ -32,6 +32,12 @@ row-text-requires c κs = search needs
 row-text-requires-2 : tie.Need-row-text-requires-2
 row-text-requires-2 c κs = search needs
 
+value-of-requires : tie.Need-value-of-requires
+value-of-requires c κs = search needs
+
+front-requires : tie.Need-front-requires
+front-requires c κs = search needs
+
 put-row-requires : tie.Need-put-row-requires
 put-row-requires c κs = search needs
 
@@ -40,11 +46,13 @@ same-length c = search needs
 
 returns : tie.Need-returns
 returns c =
-    let o = c .before .before .before .before .before .before .before .before in
+    let f = c .before .before .before .before in
+    let o = f .before .before .before .before .before .before in
     let a = o .before .before .before .before .before .before .before .before .before .before .args in
     let l : Lent = lent (a .slots .now) (a .optional .now) (a .text .now) (a .starts .now) (a .ends .now) in
     next-on (behindAt l) (partsAt l) (a .rows .now) (a .row) (a .here .off) (a .here .many) _ (a .buf .now) (a .here .at) (o .before .before .before .before .before .before .before .before .before .before .pre .0) _
-    (c .before .before .before .before .before .before .before .is-on .ensures) (c .before .before .before .before .before .before .if1 .taken) (o .last-many .ensures) _ _ (c .before .before .before .before .before .row-text .ensures) (c .before .before .before .before .row-text2 .ensures) _ _ (c .before .before .put-row .ensures)
+    (f .before .before .before .before .before .is-on .ensures) (f .before .before .before .before .if1 .taken) (o .last-many .ensures) _ _ (f .before .before .before .row-text .ensures) (f .before .before .row-text2 .ensures) _ _
+    (rw (← puts-of _ _ (partsAt l) _ _, ← f .before .value-of .ensures, ← f .front .ensures) (c .before .before .put-row .ensures))
 
 deeper-requires : tie.Need-deeper-requires
 deeper-requires c κs = search needs
@@ -70,6 +78,8 @@ put-next-spec =
     is-on-requires
     row-text-requires
     row-text-requires-2
+    value-of-requires
+    front-requires
     put-row-requires
     same-length
     returns

@@ -10,14 +10,14 @@ use Rattle.fill.proofs.parts.put_row.Tie as tie
 either-requires : tie.Need-either-requires
 either-requires c κs = search needs
 
-put-held-requires : tie.Need-put-held-requires
-put-held-requires c κs = search needs
+put-line-requires : tie.Need-put-line-requires
+put-line-requires c κs = search needs
 
 same-length : tie.Need-same-length
 same-length c = search needs
 
 returns : tie.Need-returns
-returns c = rw (puts-by _ _ _ _ _, sym (c .before .before .before .before .before .either .ensures) ∙ c .before .before .before .before .if1 .taken) (c .before .before .put-held .ensures)
+returns c = rw (puts-by _ _ _ _ _, sym (c .before .before .before .before .before .either .ensures) ∙ c .before .before .before .before .if1 .taken) (c .before .before .put-line .ensures)
 
 either-requires-2 : tie.Need-either-requires-2
 either-requires-2 c κs = search needs
@@ -60,7 +60,7 @@ put-row-spec =
     tie.close
     (tie.spec
     either-requires
-    put-held-requires
+    put-line-requires
     same-length
     returns
     either-requires-2

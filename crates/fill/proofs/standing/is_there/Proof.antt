@@ -6,20 +6,20 @@ use borrow.Author.Needs.{needs}
 use Rattle.fill.proofs.standing.is_there.Statement.{statement}
 use Rattle.fill.proofs.standing.is_there.Tie as tie
 
-stretch-requires : tie.Need-stretch-requires
-stretch-requires c κs = search needs
+value-of-requires : tie.Need-value-of-requires
+value-of-requires c κs = search needs
 
 returns : tie.Need-returns
 returns c =
     let a = c .before .before .before .before .before .before .before .args in
-    let v = c .before .stretch .result .now in
-    rw (← c .before .stretch .ensures) (value-there (frontOf (a .slots .now) (a .optional .now) (a .slot) (length v)) v (c .if1 .taken))
+    let v = c .before .value-of .result .now in
+    rw (← c .before .value-of .ensures) (value-there (frontOf (a .slots .now) (a .optional .now) (a .slot) (length v)) v (c .if1 .taken))
 
 front-requires : tie.Need-front-requires
 front-requires c κs = search needs
 
 returns-2 : tie.Need-returns-2
-returns-2 c = rw (← c .before .before .stretch .ensures, ← c .front .ensures) (front-there (c .front .result .now) (c .before .before .stretch .result .now) (c .before .if1 .left))
+returns-2 c = rw (← c .before .before .value-of .ensures, ← c .front .ensures) (front-there (c .front .result .now) (c .before .before .value-of .result .now) (c .before .if1 .left))
 
 pub is-there-spec : {M : Type 1} → statement M
-is-there-spec = tie.close (tie.spec stretch-requires returns front-requires returns-2)
+is-there-spec = tie.close (tie.spec value-of-requires returns front-requires returns-2)
