@@ -13,6 +13,7 @@ use lib.Seq.{drop-nil, drop-drop}
 use borrow.Author.Tests.{eq-eqb, ne-eqb, eqb-true, le-leb, lt-leb}
 use Rattle.text.specs.Classes.{isBetween}
 use Rattle.text.proofs.Laws.{and-left, and-right}
+use Rattle.stretches.specs.Stretches.{slotCount}
 use Rattle.lines.specs.Lines.{linesOf, lineAt, startBehind, endOf}
 use Rattle.lines.specs.declared.Line.{Line}
 use Rattle.lines.proofs.Laws.{Located, located, lines-behind, begins}
@@ -175,7 +176,7 @@ module _ (m : List ℕ) (slot : ℕ) (h : asked m slot ≡ true) where
 
 pub record Kept (m : List ℕ) (wanted : ℕ) (seen : List ℕ) (here : Place) (at : ℕ) : Type 0 where
   pub good : asked m wanted ≡ true
-  pub long : length seen ≡ 32
+  pub long : length seen ≡ slotCount
   pub lines : ℕ
   pub begun : at ≡ startBehind m lines
   pub ts : List Taken
@@ -188,7 +189,7 @@ abbrev pub top : Place
 top = record { row = 0; back = 0 }
 
 abbrev pub none-seen : List ℕ
-none-seen = replicate {A = ℕ} 32 0
+none-seen = replicate {A = ℕ} slotCount 0
 
 body-run : (m : List ℕ) (ls : List (List ℕ)) → ls ≡ drop 4 (linesOf m) → runOf table top none-seen 5 ls ≡ bodyOf m
 unfolding bodyOf layoutOf

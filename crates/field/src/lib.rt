@@ -59,7 +59,7 @@ fn search(message: &[u8], rows: &[u8], from: usize, wanted: usize) -> Stretch
     requires { ⌜ (asked (now message) wanted ≡ true) × (from ≡ startBehind (now message) 4) × (rowsOf (now rows) ≡ table) ⌝ }
     ensures { λ r. ⌜ r ≡ placeOf (now (message .entry)) wanted ⌝ }
 {
-    let mut seen = [0u8; 32];
+    let mut seen = [0u8; stretches::SLOTS];
     let mut here = Place { row: 0, back: 0 };
     let mut at = from;
     'blocks: loop {

@@ -7,6 +7,7 @@ use mathlib.Core.List.{List, [], _∷_}
 use lib.Dec.{eqb}
 use lib.ListN.{length, drop, getD, set, replicate}
 use Rattle.text.specs.Bytes.{begins, same}
+use Rattle.stretches.specs.Stretches.{slotCount}
 use Rattle.layout.specs.Rows.{Row, field, opens, closes, many, mark, back, ends}
 use Rattle.layout.specs.declared.Place.{Place}
 use Rattle.layout.specs.declared.Step.{Step}
@@ -142,4 +143,4 @@ runOf table here seen n (l ∷ ls) =
 
 -- from the first row on, with no slot seen, lines counted from n
 unfoldable pub layoutOf : List Row → ℕ → List (List ℕ) → Run
-layoutOf table n ls = runOf table (record { row = 0; back = 0 }) (replicate {A = ℕ} 32 0) n ls
+layoutOf table n ls = runOf table (record { row = 0; back = 0 }) (replicate {A = ℕ} slotCount 0) n ls

@@ -13,7 +13,7 @@ use Rattle.blocks.specs.Blocks.{nestPass}
 use Rattle.trade.specs.Records.{tradeOf, blankTrade}
 use Rattle.trade.specs.declared.Trade.{Trade}
 use Rattle.kinds.specs.Kinds.{kindsPass}
-use Rattle.stretches.specs.Stretches.{stretchOf}
+use Rattle.stretches.specs.Stretches.{slotCount, stretchOf}
 use Rattle.table.specs.Table.{table, slotOf}
 use Rattle.walk.specs.Walk.{bodyPass, takenIn, valueFrom, walkOf}
 use Rattle.walk.specs.declared.Body.{Body}
@@ -47,7 +47,7 @@ module _ (m : List ℕ) (head : Header) (first : head ≡ headOf m) (r : Body) (
   unfolding walkOf bodyOf
   body-verdict = ap (λ (x : Body). x .verdict) walked
 
-  pub body-values : (s : ℕ) → s < 32 → stretchOf m (r .starts) (r .ends) s ≡ valueIn m (takenIn (bodyOf m)) s
+  pub body-values : (s : ℕ) → s < slotCount → stretchOf m (r .starts) (r .ends) s ≡ valueIn m (takenIn (bodyOf m)) s
   unfolding bodyOf valueIn headOf
   body-values s h =
       stretch-is table slotOf m (headOf m .starts) (headOf m .ends) s h h r walked
@@ -56,10 +56,10 @@ module _ (m : List ℕ) (head : Header) (first : head ≡ headOf m) (r : Body) (
 -- ---- the passes in their order
 
 -- a record is told by the values of its slots
-same-trade : (v w : ℕ → List ℕ) → ((s : ℕ) → s < 32 → v s ≡ w s) → tradeOf v ≡ tradeOf w
+same-trade : (v w : ℕ → List ℕ) → ((s : ℕ) → s < slotCount → v s ≡ w s) → tradeOf v ≡ tradeOf w
 unfolding tradeOf
 same-trade v w h =
-    let at : (s : ℕ) → T (ltb s 32) → v s ≡ w s = λ s a. h s (lit< a) in
+    let at : (s : ℕ) → T (ltb s slotCount) → v s ≡ w s = λ s a. h s (lit< a) in
     rw (at 28 tt, at 29 tt, at 1 tt, at 3 tt, at 4 tt, at 5 tt, at 6 tt, at 7 tt, at 8 tt, at 9 tt, at 10 tt, at 11 tt, at 12 tt, at 13 tt, at 14 tt, at 15 tt, at 16 tt, at 17 tt, at 18 tt, at 19 tt, at 20 tt, at 21 tt)
 
 module _ (m : List ℕ) where
@@ -96,7 +96,7 @@ module _ (m : List ℕ) where
               (stop v4 (bodyPass slotOf (bodyOf m)) _ e4 h ∙ go v3 (nestPass m) _ e3 g3 ∙ go v2 (headerPass m) _ e2 g2 ∙ go v1 (linesPass m) _ e1 g1 ∙ sym verdict-is)
 
           -- nothing wrong up to the values: the kinds decide
-          pub judged-is : v4 .number ≡ 0 → (value : ℕ → List ℕ) → ((s : ℕ) → s < 32 → value s ≡ valueIn m (takenIn (bodyOf m)) s) → judged value ≡ readOf m
+          pub judged-is : v4 .number ≡ 0 → (value : ℕ → List ℕ) → ((s : ℕ) → s < slotCount → value s ≡ valueIn m (takenIn (bodyOf m)) s) → judged value ≡ readOf m
           unfolding readOf judged values last
           judged-is g4 value same =
               let t : tradeOf value ≡ tradeOf values = same-trade value values same in

@@ -18,7 +18,7 @@ use Rattle.lines.specs.declared.Verdict.{Verdict}
 use Rattle.lines.specs.declared.Line.{Line}
 use Rattle.lines.proofs.Laws.{located, lines-next, lines-none, begins}
 use Rattle.forms.specs.Forms.{isCode}
-use Rattle.stretches.specs.Stretches.{between, stretchOf}
+use Rattle.stretches.specs.Stretches.{slotCount, between, stretchOf}
 use Rattle.mt515.specs.Body.{lineOf, headerVerdict, headerPass, headerValue}
 use Rattle.mt515.specs.Walks.{headOf}
 use Rattle.mt515.specs.declared.header.Header.{Header}
@@ -126,7 +126,7 @@ from-start m l e h = rw sub-zero at h
 -- ---- what is kept of them
 
 pub head-is : (m : List ℕ) (v : Verdict) (first second end : ℕ) → v ≡ headerPass m → first ≡ endOf m 1 → second ≡ startBehind m 1 → end ≡ endOf m 2
-    → record { verdict = v; starts = set (replicate {A = ℕ} 32 0) 29 second; ends = set (set (replicate {A = ℕ} 32 0) 28 first) 29 end } ≡ headOf m
+    → record { verdict = v; starts = set (replicate {A = ℕ} slotCount 0) 29 second; ends = set (set (replicate {A = ℕ} slotCount 0) 28 first) 29 end } ≡ headOf m
 unfolding headOf
 head-is m v first second end a b c d = rw (a, b, c, d)
 
@@ -146,12 +146,12 @@ line-between m k =
     let l = lined m k (startBehind m k) (lineAt m (startBehind m k)) refl (b .within) (b .rest) in
     between-is m (startBehind m k) (lineAt m (startBehind m k) .end) (l .starts) (l .stops) ∙ l .here
 
-pub header-kept : (m : List ℕ) (s : ℕ) → s < 32 → stretchOf m (headOf m .starts) (headOf m .ends) s ≡ headerValue m s
+pub header-kept : (m : List ℕ) (s : ℕ) → s < slotCount → stretchOf m (headOf m .starts) (headOf m .ends) s ≡ headerValue m s
 unfolding headOf stretchOf headerValue startBehind
 header-kept m s h = go (eqb s 28) (eqb s 29) refl refl
   where
     z : List ℕ
-    z = replicate {A = ℕ} 32 0
+    z = replicate {A = ℕ} slotCount 0
 
     starts : List ℕ
     starts = set z 29 (startBehind m 1)
@@ -165,4 +165,4 @@ header-kept m s h = go (eqb s 28) (eqb s 29) refl refl
     go false false p q =
         let i : s ≡ 28 → ⊥ = eqb-false s 28 p in
         let j : s ≡ 29 → ⊥ = eqb-false s 29 q in
-        rw (getD-set-other z 29 s (startBehind m 1) 0 j, getD-set-other (set z 28 (endOf m 1)) 29 s (endOf m 2) 0 j, getD-set-other z 28 s (endOf m 1) 0 i, getD-replicate {A = ℕ} 32 s 0 0 h) (nothing m)
+        rw (getD-set-other z 29 s (startBehind m 1) 0 j, getD-set-other (set z 28 (endOf m 1)) 29 s (endOf m 2) 0 j, getD-set-other z 28 s (endOf m 1) 0 i, getD-replicate {A = ℕ} slotCount s 0 0 h) (nothing m)

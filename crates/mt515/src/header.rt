@@ -8,8 +8,8 @@ ghost use Rattle.mt515.specs.Walks.{headOf};
 // What the header comes to: a verdict, and where the password and the sender begin and end.
 pub(crate) struct Header {
     pub verdict: Verdict,
-    pub starts: [usize; 32],
-    pub ends: [usize; 32],
+    pub starts: [usize; stretches::SLOTS],
+    pub ends: [usize; stretches::SLOTS],
 }
 
 fn wrong(line: usize) -> Verdict
@@ -39,8 +39,8 @@ pub(crate) fn read_header(message: &[u8]) -> Header
         &message[third..third_end],
         &message[fourth..fourth_end],
     );
-    let mut starts = [0usize; 32];
-    let mut ends = [0usize; 32];
+    let mut starts = [0usize; stretches::SLOTS];
+    let mut ends = [0usize; stretches::SLOTS];
     ends[28] = first;
     starts[29] = second;
     ends[29] = end;

@@ -5,15 +5,16 @@ use mathlib.Core.Bool.{Bool, true, false, _&&_, _||_, not, cond}
 use mathlib.Core.List.{List, [], _∷_, _++_}
 use lib.Dec.{leb, ltb}
 use Rattle.text.specs.Bytes.{begins, same}
+use Rattle.stretches.specs.Stretches.{slotCount}
 use Rattle.sheets.specs.Trees.{Field, Member, Tree, last, line, block, group, chain}
 use Rattle.sheets.specs.Sheets.{Entry, edge, held, has}
 use Rattle.sheets.specs.Filled.{some, anyField, anyIn}
 use Rattle.sheets.specs.Plain.{Group, groupsOf}
 
--- ---- slots: 1 to 31
+-- ---- slots: from 1 on, as many as have a byte
 
 unfoldable pub goodSlot : ℕ → Bool
-goodSlot s = leb 1 s && ltb s 32
+goodSlot s = leb 1 s && ltb s slotCount
 
 unfoldable pub goodFields : List Field → Bool
 goodFields [] = true

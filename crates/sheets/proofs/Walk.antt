@@ -19,6 +19,7 @@ use Rattle.layout.specs.declared.Place.{Place}
 use Rattle.layout.specs.declared.Step.{Step}
 use Rattle.layout.specs.declared.Look.{Look}
 use Rattle.layout.specs.declared.Look.the-variants.{Decided, Further}
+use Rattle.stretches.specs.Stretches.{slotCount}
 use Rattle.sheets.specs.Trees.{Field, Member, Tree, last, line, block, group, chain, fieldRows, memberRows, rowsIn, tableOf}
 use Rattle.sheets.specs.Sheets.{has, lacking}
 use Rattle.sheets.proofs.Checks.{goodSlot, goodFields, goodMembers, goodTree}
@@ -45,7 +46,7 @@ pub data At (table : List Row) : Place → Spot → List Tree → Type 0 where
 
 -- the slots that have come are those that were seen
 abbrev pub Told : List ℕ → List ℕ → Type 0
-Told seen slots = (length seen ≡ 32) × ((s : ℕ) → goodSlot s ≡ true → isSeen seen s ≡ has slots s)
+Told seen slots = (length seen ≡ slotCount) × ((s : ℕ) → goodSlot s ≡ true → isSeen seen s ≡ has slots s)
 
 -- a step does what a move does
 pub data Does (table : List Row) : Step → Move → Type 0 where
@@ -76,9 +77,9 @@ either false b x y = refl
 
 -- ---- what is seen
 
-seen-none : Told (replicate {A = ℕ} 32 0) []
+seen-none : Told (replicate {A = ℕ} slotCount 0) []
 unfolding isSeen has goodSlot
-seen-none = (length-replicate {A = ℕ} 32 0, λ s g. rw (getD-replicate {A = ℕ} 32 s 0 0 (ltb-true s 32 (and-right (leb 1 s) _ g))))
+seen-none = (length-replicate {A = ℕ} slotCount 0, λ s g. rw (getD-replicate {A = ℕ} slotCount s 0 0 (ltb-true s slotCount (and-right (leb 1 s) _ g))))
 
 -- a slot of 1 to 31 that comes is seen from then on, and it alone
 seen-more : (seen slots : List ℕ) (s : ℕ) → goodSlot s ≡ true → Told seen slots → Told (set seen s 1) (s ∷ slots)
@@ -88,7 +89,7 @@ seen-more seen slots s g t = (length-set seen s 1 ∙ t .0, λ x h. on x h (eqb 
     on : (x : ℕ) → goodSlot x ≡ true → (b : Bool) → eqb s x ≡ b → eqb (getD (set seen s 1) x 0) 1 ≡ (b || has slots x)
     on x h true e =
         let q = eqb-true s x e in
-        let k : s < length seen = rw (t .0) (ltb-true s 32 (and-right (leb 1 s) _ g)) in
+        let k : s < length seen = rw (t .0) (ltb-true s slotCount (and-right (leb 1 s) _ g)) in
         rw (← q, getD-set-same seen s 1 0 k)
     on x h false e = rw (getD-set-other seen s x 1 0 (λ q. eqb-false s x e (sym q))) (t .1 x h)
 
@@ -363,4 +364,4 @@ run-walk table (l ∷ ls) n here seen slots spot ts told at g h =
 -- the lines of a message against a table are walked over its tree
 pub layout-walk : (t : Tree) (n : ℕ) (ls : List (List ℕ)) → goodTree t ≡ true → layoutOf (tableOf t) n ls ≡ walk [] n (within t) [] ls
 unfolding layoutOf tableOf rowsAround goodSpot goodTrees Alike
-layout-walk t n ls g = run-walk (rowsIn t []) ls n (record { row = 0; back = 0 }) (replicate {A = ℕ} 32 0) [] (within t) [] seen-none (in-block refl) g refl
+layout-walk t n ls g = run-walk (rowsIn t []) ls n (record { row = 0; back = 0 }) (replicate {A = ℕ} slotCount 0) [] (within t) [] seen-none (in-block refl) g refl

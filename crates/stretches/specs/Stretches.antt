@@ -5,6 +5,10 @@ use mathlib.Core.List.{List, []}
 use lib.Dec.{leb}
 use lib.ListN.{length, take, drop, getD}
 
+-- slots are numbered below this: the one place that says how many a message type may have
+abbrev pub slotCount : ℕ
+slotCount = 40
+
 -- from one place to another of a text; nothing where they do not stand in it in that order
 unfoldable pub between : List ℕ → ℕ → ℕ → List ℕ
 between m from to = cond (leb from to && leb to (length m)) (take (to - from) (drop from m)) []

@@ -5,6 +5,9 @@ ghost use mathlib.Core.Path.{_≡_};
 ghost use lib.ListN.{getD, set};
 ghost use Rattle.stretches.specs.Stretches.{between, stretchOf};
 
+// How many slots a message type may have, numbered from 0: as many places are kept.
+pub const SLOTS: usize = 40;
+
 // From one place to another of a text; nothing where they do not stand in it in that order.
 pub fn part(text: &[u8], from: usize, to: usize) -> &[u8]
     ensures { λ r. ⌜ now r ≡ between (now (text .entry)) from to ⌝ }

@@ -82,7 +82,11 @@ pub const SLOTS: [u8; 1024] = *b"\x00\x00\x00\x00            ................\
     \x00\x00\x00\x06//APMT      ................";
 
 // The walk over the lines behind the header of an MT515, with the places that are kept already.
-pub fn walk(message: &[u8], starts: [usize; 32], ends: [usize; 32]) -> Body
+pub fn walk(
+    message: &[u8],
+    starts: [usize; stretches::SLOTS],
+    ends: [usize; stretches::SLOTS],
+) -> Body
     ensures { λ r. ⌜ r ≡ walkOf table slotOf (now (message .entry)) starts ends ⌝ }
 {
     walk::walk(message, &TABLE, &SLOTS, starts, ends)

@@ -18,6 +18,7 @@ use Rattle.layout.specs.Rows.{Row}
 use Rattle.layout.specs.Layout.{Taken, Run, refusedAt, taken, stepOf, runOf, behind, withTaken, marked, layoutOf}
 use Rattle.layout.specs.declared.Place.{Place}
 use Rattle.layout.proofs.Laws.{takes-within}
+use Rattle.stretches.specs.Stretches.{slotCount}
 use Rattle.walk.specs.Walk.{takenIn, valueFrom, startsOf, endsOf, walkOf}
 use Rattle.walk.specs.declared.Body.{Body}
 
@@ -116,7 +117,7 @@ module _ (m : List ℕ) (table : List Row) where
 
   pub standing : Standing m (takenIn (layoutOf table 5 (drop 4 (linesOf m))))
   unfolding layoutOf
-  standing = stand-in (drop 4 (linesOf m)) (record { row = 0; back = 0 }) (replicate {A = ℕ} 32 0) 4 (sym (begins m 4 .rest))
+  standing = stand-in (drop 4 (linesOf m)) (record { row = 0; back = 0 }) (replicate {A = ℕ} slotCount 0) 4 (sym (begins m 4 .rest))
 
 -- ---- the places that a walk has kept
 

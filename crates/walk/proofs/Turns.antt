@@ -20,6 +20,7 @@ use Rattle.layout.specs.Layout.{Taken, Run, refusedAt, taken, stepOf, runOf, be
 use Rattle.layout.specs.declared.Place.{Place}
 use Rattle.layout.specs.declared.Step.{Step}
 use Rattle.layout.proofs.Laws.{run-next, takes-within}
+use Rattle.stretches.specs.Stretches.{slotCount}
 use Rattle.walk.specs.Walk.{valueVerdict, valuesPass, bodyPass, takenIn, startsOf, endsOf, walkOf}
 use Rattle.walk.proofs.Laws.{drop-take}
 
@@ -98,17 +99,17 @@ module _ (table : List Row) (slotOf : ℕ → Slot) (m starts₀ ends₀ : List 
     pub count : n ≡ suc lines
     pub placed : at ≡ startBehind m lines
     pub few : lines ≤ at + 4
-    pub starts-long : length starts ≡ 32
-    pub ends-long : length ends ≡ 32
-    pub seen-long : length seen ≡ 32
+    pub starts-long : length starts ≡ slotCount
+    pub ends-long : length ends ≡ slotCount
+    pub seen-long : length seen ≡ slotCount
     pub front : List Taken
     pub whole : onto front (runOf table here seen n (linesOf (drop at m))) ≡ layoutOf table 5 (drop 4 (linesOf m))
     pub first : fault ≡ valuesPass slotOf front
     pub begun : starts ≡ startsOf slotOf m starts₀ front
     pub ended : ends ≡ endsOf m ends₀ front
 
-  pub begin : (at : ℕ) → at ≡ startBehind m 4 → length starts₀ ≡ 32 → length ends₀ ≡ 32
-      → Kept starts₀ ends₀ (replicate {A = ℕ} 32 0) (record { row = 0; back = 0 }) pass at 5
+  pub begin : (at : ℕ) → at ≡ startBehind m 4 → length starts₀ ≡ slotCount → length ends₀ ≡ slotCount
+      → Kept starts₀ ends₀ (replicate {A = ℕ} slotCount 0) (record { row = 0; back = 0 }) pass at 5
   unfolding onto layoutOf valuesPass startsOf endsOf
   begin at e starts-long ends-long =
       record {
@@ -120,7 +121,7 @@ module _ (table : List Row) (slotOf : ℕ → Slot) (m starts₀ ends₀ : List 
         ends-long = ends-long;
         seen-long = refl;
         front = [];
-        whole = rw e (ap (runOf table (record { row = 0; back = 0 }) (replicate {A = ℕ} 32 0) 5) (begins m 4 .rest));
+        whole = rw e (ap (runOf table (record { row = 0; back = 0 }) (replicate {A = ℕ} slotCount 0) 5) (begins m 4 .rest));
         first = refl;
         begun = refl;
         ended = refl;

@@ -17,8 +17,8 @@ ghost use Rattle.walk.specs.Walk.{valueVerdict, walkOf};
 // What a walk comes to: a verdict, and where the value of each slot begins and ends.
 pub struct Body {
     pub verdict: Verdict,
-    pub starts: [usize; 32],
-    pub ends: [usize; 32],
+    pub starts: [usize; stretches::SLOTS],
+    pub ends: [usize; stretches::SLOTS],
 }
 
 // The first fault of the values, after one more value; slot 0 has none.
@@ -64,14 +64,14 @@ pub fn walk(
     message: &[u8],
     rows: &[u8],
     slots: &[u8],
-    starts: [usize; 32],
-    ends: [usize; 32],
+    starts: [usize; stretches::SLOTS],
+    ends: [usize; stretches::SLOTS],
 ) -> Body
     ensures { λ r. ⌜ r ≡ walkOf (rowsOf (now (rows .entry))) (slotAt (now (slots .entry))) (now (message .entry)) starts ends ⌝ }
 {
     let mut begun = starts;
     let mut ended = ends;
-    let mut seen = [0u8; 32];
+    let mut seen = [0u8; stretches::SLOTS];
     let mut here = Place { row: 0, back: 0 };
     let mut fault = Verdict::PASS;
     let mut at = lines::behind(message, 4);
