@@ -73,7 +73,7 @@ run-next table here seen n l ls = refl
 -- ---- a line is at least as long as the text of the slot that it is taken for
 
 -- a choice has what both its sides have
-of-both : {A : Type 0} (P : A → Type 0) (b : Bool) {x y : A} → (b ≡ true → P x) → (b ≡ false → P y) → P (cond b x y)
+pub of-both : {A : Type 0} (P : A → Type 0) (b : Bool) {x y : A} → (b ≡ true → P x) → (b ≡ false → P y) → P (cond b x y)
 of-both P true f g = f refl
 of-both P false f g = g refl
 

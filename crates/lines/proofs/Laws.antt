@@ -1,21 +1,21 @@
--- What callers cite: how the lines of a message go on from a place, how passes come one after the other, and what is known of
--- a message that has passed.
+-- What callers cite: how the lines of a message go on from a place, how passes come one after the other, where the end of a line
+-- stands in its message, and what is known of a message that has passed.
 -- Assumes nothing.
 use Prim.Native.Nat.{ℕ, zero, suc, _+_, _-_, _≤_, _<_, min}
 use mathlib.Core.Path.{_≡_, refl, sym, ap, _∙_}
 use mathlib.Core.Bool.{Bool, true, false, _&&_, not, cond}
-use mathlib.Core.List.{List, [], _∷_, _++_}
-use native.Mathlib.Nat.{not-suc-le-zero, add-zero}
+use mathlib.Core.List.{List, [], _∷_, _++_, head-eq-of-cons-eq, tail-eq-of-cons-eq}
+use native.Mathlib.Nat.{not-suc-le-zero, add-zero, sub-zero, zero-sub, suc-sub-suc}
 use native.Mathlib.Numerals.{add-one}
 use native.Mathlib.Omega.{arith}
 use lib.Dec.{leb, ltb, eqb}
 use lib.ListN.{length, take, drop, length-take, length-drop, drop-of-length-le}
-use lib.Seq.{take-take, drop-drop, drop-length}
+use lib.Seq.{take-nil, take-take, drop-drop, drop-length}
 use borrow.Author.Tests.{ltb-true, ltb-false, leb-true, leb-false, eq-eqb, ne-eqb, eqb-true}
 use Rattle.text.specs.Bytes.{bytes, same, before}
 use Rattle.text.proofs.Laws.{and-left, and-right, before-front, before-length, same-eq}
 use Rattle.lines.specs.Verdicts.{refused, pass, then}
-use Rattle.lines.specs.Lines.{inFront, cutLines, bare, linesOf, ended, sizePass, bytePass, endPass, linesPass, lineAt, startBehind}
+use Rattle.lines.specs.Lines.{inFront, cutLines, bare, linesOf, ended, sizePass, bytePass, endPass, linesPass, lineAt, startBehind, endOf}
 use Rattle.lines.specs.declared.Verdict.{Verdict}
 use Rattle.lines.specs.declared.Line.{Line}
 
@@ -156,6 +156,80 @@ begins m (suc n) =
     let b = begins m n in
     let l = lines-next m (startBehind m n) _ refl (b .within) in
     record { within = l .0; rest = l .1 ∙ ap (drop 1) (b .rest) ∙ drop-drop 1 n (linesOf m) ∙ ap (λ (k : ℕ). drop k (linesOf m)) (add-one n) }
+
+-- the line that begins behind so many is the next by its number
+module _ (m : List ℕ) (n at : ℕ) (line : Line) (begun : at ≡ startBehind m n) (is : line ≡ lineAt m at) where
+  pub end-is : endOf m (suc n) ≡ line .end
+  unfolding endOf
+  end-is = ap (λ (x : ℕ). lineAt m x .end) (sym begun) ∙ ap (λ (x : Line). x .end) (sym is)
+
+  pub next-is : line .next ≡ startBehind m (suc n)
+  unfolding startBehind
+  next-is = ap (λ (x : Line). x .next) is ∙ ap (λ (x : ℕ). lineAt m x .next) begun
+
+-- ---- parts of a message
+
+-- what is left of the front of a list
+pub drop-front : (k n : ℕ) (y : List ℕ) → drop k (take n y) ≡ take (n - k) (drop k y)
+drop-front zero n y = rw sub-zero
+drop-front (suc k) zero y = rw zero-sub
+drop-front (suc k) (suc n) [] = sym (take-nil (suc n - suc k))
+drop-front (suc k) (suc n) (b ∷ y) = drop-front k n y ∙ rw suc-sub-suc
+
+-- what is left of a line, from one place to another, behind some of its bytes
+pub drop-take : (m : List ℕ) (at stop k : ℕ) → drop k (take (stop - at) (drop at m)) ≡ take (stop - (at + k)) (drop (at + k) m)
+drop-take m at stop k = let n : stop - at - k ≡ stop - (at + k) = omega arith in drop-front k (stop - at) (drop at m) ∙ rw (n, drop-drop k at m)
+
+-- the text of a line is as long as its places say
+pub text-long : (m : List ℕ) (at end next : ℕ) → Located m at end next → length (take (end - at) (drop at m)) ≡ end - at
+text-long m at end next p =
+    let a = p .ends in
+    let b = p .within in
+    let l = length-drop at m in
+    length-take (end - at) (drop at m) ∙ omega arith
+
+-- ---- a value that is the end of its line's text
+
+pub record Stands (m : List ℕ) (line : ℕ) (value : List ℕ) : Type 0 where
+  pub within : endOf m line ≤ length m
+  pub long : length value ≤ endOf m line
+  pub here : drop (endOf m line - length value) (take (endOf m line) m) ≡ value
+
+-- the first line from a place on, and those behind it
+pub record First (m : List ℕ) (k : ℕ) (l : List ℕ) (ls : List (List ℕ)) : Type 0 where
+  pub from : startBehind m k ≤ endOf m (suc k)
+  pub to : endOf m (suc k) ≤ length m
+  pub text : l ≡ take (endOf m (suc k) - startBehind m k) (drop (startBehind m k) m)
+  pub rest : ls ≡ linesOf (drop (startBehind m (suc k)) m)
+
+pub first : (m : List ℕ) (k : ℕ) (l : List ℕ) (ls : List (List ℕ)) → l ∷ ls ≡ linesOf (drop (startBehind m k) m) → First m k l ls
+unfolding startBehind endOf
+first m k l ls e = go (ltb (startBehind m k) (length m)) refl
+  where
+    go : (b : Bool) → ltb (startBehind m k) (length m) ≡ b → First m k l ls
+    go true t =
+        let p = located m (startBehind m k) (lineAt m (startBehind m k)) refl (ltb-true _ _ t) in
+        let q = e ∙ p .go-on in
+        record { from = p .starts; to = let a = p .ends in let b = p .within in omega arith; text = head-eq-of-cons-eq q; rest = tail-eq-of-cons-eq q }
+    go false t =
+        let none : l ∷ ls ≡ [] = e ∙ lines-behind m (startBehind m k) (ltb-false _ _ t) in
+        let z : suc (length ls) ≡ 0 = ap length none in
+        let no : ⊥ = omega arith in
+        absurd no
+
+-- what is left of it behind some bytes is such a value
+pub stands : (m : List ℕ) (k w : ℕ) (l : List ℕ) (ls : List (List ℕ)) → First m k l ls → w ≤ length l → Stands m (suc k) (drop w l)
+stands m k w l ls f h =
+    let at : ℕ = startBehind m k in
+    let stop : ℕ = endOf m (suc k) in
+    let a = f .from in
+    let b = f .to in
+    let text : l ≡ drop at (take stop m) = f .text ∙ sym (drop-front at stop m) in
+    let size : length (take stop m) ≡ stop = rw length-take (omega arith) in
+    let long : length l ≡ stop - at = ap length text ∙ length-drop at (take stop m) ∙ (let d = size in omega arith) in
+    let v = length-drop w l in
+    let begun : stop - length (drop w l) ≡ at + w = omega arith in
+    record { within = b; long = omega arith; here = rw begun (sym (drop-drop w at (take stop m)) ∙ ap (drop w) (sym text)) }
 
 -- ---- a message that has passed
 

@@ -1,39 +1,27 @@
 -- What callers cite: what stands at the places that a walk has kept is the value of each slot.
 -- Assumes nothing.
-use Prim.Native.Nat.{ℕ, zero, suc, _+_, _-_, _≤_, _<_}
+use Prim.Native.Nat.{ℕ, suc, _+_, _-_, _≤_, _<_}
 use mathlib.Core.Path.{_≡_, refl, sym, ap, _∙_}
 use mathlib.Core.Bool.{Bool, true, false, _&&_, cond}
-use mathlib.Core.List.{List, [], _∷_, head-eq-of-cons-eq, tail-eq-of-cons-eq}
-use native.Mathlib.Nat.{sub-zero, zero-sub, suc-sub-suc}
+use mathlib.Core.List.{List, [], _∷_}
 use native.Mathlib.Omega.{arith}
-use lib.Dec.{leb, ltb, eqb}
-use lib.ListN.{length, take, drop, getD, set, replicate, length-take, length-drop, length-set, drop-of-length-le}
-use lib.Seq.{take-nil, drop-drop, getD-set-same, getD-set-other}
-use borrow.Author.Tests.{le-leb, leb-false, ltb-true, ltb-false, eqb-true, eqb-false}
-use Rattle.lines.specs.Lines.{linesOf, lineAt, startBehind, endOf}
-use Rattle.lines.proofs.Laws.{located, lines-behind, begins}
+use lib.Dec.{leb, eqb}
+use lib.ListN.{length, take, drop, getD, set, replicate, length-take, length-set, drop-of-length-le}
+use lib.Seq.{drop-drop, getD-set-same, getD-set-other}
+use borrow.Author.Tests.{le-leb, leb-false, eqb-true, eqb-false}
+use Rattle.lines.specs.Lines.{linesOf, startBehind, endOf}
+use Rattle.lines.proofs.Laws.{begins, drop-front, Stands, first, stands}
 use Rattle.stretches.specs.Stretches.{between, stretchOf}
 use Rattle.forms.specs.Forms.{Slot}
 use Rattle.layout.specs.Rows.{Row}
 use Rattle.layout.specs.Layout.{Taken, Run, refusedAt, taken, stepOf, runOf, behind, withTaken, marked, layoutOf}
 use Rattle.layout.specs.declared.Place.{Place}
-use Rattle.layout.proofs.Laws.{takes-within}
+use Rattle.layout.proofs.Laws.{of-both, takes-within}
 use Rattle.stretches.specs.Stretches.{slotCount}
 use Rattle.walk.specs.Walk.{takenIn, valueFrom, startsOf, endsOf, walkOf}
 use Rattle.walk.specs.declared.Body.{Body}
 
 -- ---- parts of a message
-
--- what is left of the front of a list
-pub drop-front : (k n : ℕ) (y : List ℕ) → drop k (take n y) ≡ take (n - k) (drop k y)
-drop-front zero n y = rw sub-zero
-drop-front (suc k) zero y = rw zero-sub
-drop-front (suc k) (suc n) [] = sym (take-nil (suc n - suc k))
-drop-front (suc k) (suc n) (b ∷ y) = drop-front k n y ∙ rw suc-sub-suc
-
--- what is left of a line, from one place to another, behind some of its bytes
-pub drop-take : (m : List ℕ) (at stop k : ℕ) → drop k (take (stop - at) (drop at m)) ≡ take (stop - (at + k)) (drop (at + k) m)
-drop-take m at stop k = let n : stop - at - k ≡ stop - (at + k) = omega arith in drop-front k (stop - at) (drop at m) ∙ rw (n, drop-drop k at m)
 
 between-is : (m : List ℕ) (from to : ℕ) → to ≤ length m → between m from to ≡ drop from (take to m)
 unfolding between
@@ -46,63 +34,18 @@ between-is m from to h = go (leb from to) refl
         let l : length (take to m) ≤ from = rw length-take (omega arith) in
         sym (drop-of-length-le (take to m) l)
 
--- ---- the value of a line that was taken is the end of that line's text
-
-pub record Stands (m : List ℕ) (t : Taken) : Type 0 where
-  pub within : endOf m (t .line) ≤ length m
-  pub long : length (t .value) ≤ endOf m (t .line)
-  pub here : drop (endOf m (t .line) - length (t .value)) (take (endOf m (t .line)) m) ≡ t .value
+-- ---- the value of each line that was taken is the end of that line's text
 
 unfoldable pub Standing : List ℕ → List Taken → Type 0
 Standing m [] = Unit
-Standing m (t ∷ ts) = Stands m t × Standing m ts
+Standing m (t ∷ ts) = Stands m (t .line) (t .value) × Standing m ts
 
-with-standing : (m : List ℕ) (t : Taken) (r : Run) → Stands m t → Standing m (takenIn r) → Standing m (takenIn (withTaken t r))
+with-standing : (m : List ℕ) (t : Taken) (r : Run) → Stands m (t .line) (t .value) → Standing m (takenIn r) → Standing m (takenIn (withTaken t r))
 unfolding withTaken takenIn Standing
 with-standing m t (refusedAt number line) h s = tt
 with-standing m t (taken ts) h s = (h, s)
 
--- a choice has what both its sides have
-of-both : {A : Type 0} (P : A → Type 0) (b : Bool) {x y : A} → P x → P y → P (cond b x y)
-of-both P true f g = f
-of-both P false f g = g
-
--- the first line from a place on, and those behind it
-record First (m : List ℕ) (k : ℕ) (l : List ℕ) (ls : List (List ℕ)) : Type 0 where
-  from : startBehind m k ≤ endOf m (suc k)
-  to : endOf m (suc k) ≤ length m
-  text : l ≡ take (endOf m (suc k) - startBehind m k) (drop (startBehind m k) m)
-  rest : ls ≡ linesOf (drop (startBehind m (suc k)) m)
-
-first : (m : List ℕ) (k : ℕ) (l : List ℕ) (ls : List (List ℕ)) → l ∷ ls ≡ linesOf (drop (startBehind m k) m) → First m k l ls
-unfolding startBehind endOf
-first m k l ls e = go (ltb (startBehind m k) (length m)) refl
-  where
-    go : (b : Bool) → ltb (startBehind m k) (length m) ≡ b → First m k l ls
-    go true t =
-        let p = located m (startBehind m k) (lineAt m (startBehind m k)) refl (ltb-true _ _ t) in
-        let q = e ∙ p .go-on in
-        record { from = p .starts; to = let a = p .ends in let b = p .within in omega arith; text = head-eq-of-cons-eq q; rest = tail-eq-of-cons-eq q }
-    go false t =
-        let none : l ∷ ls ≡ [] = e ∙ lines-behind m (startBehind m k) (ltb-false _ _ t) in
-        let z : suc (length ls) ≡ 0 = ap length none in
-        let no : ⊥ = omega arith in
-        absurd no
-
 module _ (m : List ℕ) (table : List Row) where
-  stands : (k slot w : ℕ) (l : List ℕ) (ls : List (List ℕ)) → First m k l ls → w ≤ length l → Stands m (record { slot = slot; line = suc k; value = drop w l })
-  stands k slot w l ls f h =
-      let at : ℕ = startBehind m k in
-      let stop : ℕ = endOf m (suc k) in
-      let a = f .from in
-      let b = f .to in
-      let text : l ≡ drop at (take stop m) = f .text ∙ sym (drop-front at stop m) in
-      let size : length (take stop m) ≡ stop = rw length-take (omega arith) in
-      let long : length l ≡ stop - at = ap length text ∙ length-drop at (take stop m) ∙ (let d = size in omega arith) in
-      let v = length-drop w l in
-      let begun : stop - length (drop w l) ≡ at + w = omega arith in
-      record { within = b; long = omega arith; here = rw begun (sym (drop-drop w at (take stop m)) ∙ ap (drop w) (sym text)) }
-
   stand-in : (ls : List (List ℕ)) (here : Place) (seen : List ℕ) (k : ℕ) → ls ≡ linesOf (drop (startBehind m k) m) → Standing m (takenIn (runOf table here seen (suc k) ls))
   unfolding runOf behind takenIn Standing
   stand-in [] here seen k e = tt
@@ -112,8 +55,8 @@ module _ (m : List ℕ) (table : List Row) where
       let ih = stand-in ls (step .place) (marked seen step) (suc k) (f .rest) in
       let P : Run → Type 0 = λ (r : Run). Standing m (takenIn r) in
       of-both P (eqb (step .number) 0)
-      (of-both P (eqb (step .slot) 0) ih (with-standing m _ _ (stands k (step .slot) (step .width) l ls f (takes-within table here seen l)) ih))
-      tt
+      (λ a. of-both P (eqb (step .slot) 0) (λ b. ih) (λ b. with-standing m _ _ (stands m k (step .width) l ls f (takes-within table here seen l)) ih))
+      (λ a. tt)
 
   pub standing : Standing m (takenIn (layoutOf table 5 (drop 4 (linesOf m))))
   unfolding layoutOf
@@ -136,7 +79,7 @@ kept-at m starts ends slot x e s l k = go (eqb slot s) refl
         rw (getD-set-other starts slot s x 0 o, getD-set-other ends slot s e 0 o)
 
 module _ (slotOf : ℕ → Slot) (m : List ℕ) (s : ℕ) where
-  kept-here : (t : Taken) (starts ends : List ℕ) → Stands m t → s < length starts → s < length ends
+  kept-here : (t : Taken) (starts ends : List ℕ) → Stands m (t .line) (t .value) → s < length starts → s < length ends
       → stretchOf m (set starts (t .slot) (endOf m (t .line) - length (t .value) + length (slotOf (t .slot) .fixed))) (set ends (t .slot) (endOf m (t .line))) s
       ≡ cond (eqb (t .slot) s) (drop (length (slotOf s .fixed)) (t .value)) (stretchOf m starts ends s)
   kept-here t starts ends h l k = kept-at m starts ends (t .slot) _ (endOf m (t .line)) s l k ∙ go (eqb (t .slot) s) refl

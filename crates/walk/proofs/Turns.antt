@@ -7,13 +7,13 @@ use mathlib.Core.List.{List, [], _∷_, _++_}
 use native.Mathlib.Numerals.{add-one}
 use native.Mathlib.Omega.{arith}
 use lib.Dec.{eqb}
-use lib.ListN.{length, take, drop, set, replicate, length-take, length-drop, length-set}
+use lib.ListN.{length, take, drop, set, replicate, length-drop, length-set}
 use borrow.Author.Tests.{eq-eqb, ne-eqb}
 use Rattle.lines.specs.Verdicts.{refused, pass, then}
 use Rattle.lines.specs.Lines.{linesOf, lineAt, startBehind, endOf}
 use Rattle.lines.specs.declared.Verdict.{Verdict}
 use Rattle.lines.specs.declared.Line.{Line}
-use Rattle.lines.proofs.Laws.{Located, located, lines-behind, begins}
+use Rattle.lines.proofs.Laws.{Located, located, lines-behind, begins, end-is, next-is, drop-take, text-long}
 use Rattle.forms.specs.Forms.{Slot, valueNumber}
 use Rattle.layout.specs.Rows.{Row}
 use Rattle.layout.specs.Layout.{Taken, Run, refusedAt, taken, stepOf, runOf, behind, withTaken, marked, layoutOf}
@@ -22,7 +22,6 @@ use Rattle.layout.specs.declared.Step.{Step}
 use Rattle.layout.proofs.Laws.{run-next, takes-within}
 use Rattle.stretches.specs.Stretches.{slotCount}
 use Rattle.walk.specs.Walk.{valueVerdict, valuesPass, bodyPass, takenIn, startsOf, endsOf, walkOf}
-use Rattle.walk.proofs.Laws.{drop-take}
 
 -- ---- one line more behind those that were taken
 
@@ -154,18 +153,15 @@ module _ (table : List Row) (slotOf : ℕ → Slot) (m starts₀ ends₀ : List 
       starts-in : at ≤ line .end
       starts-in = spot .starts
 
-      stops-in : line .end ≤ length m
-      stops-in = let a = spot .ends in let b = spot .within in omega arith
-
       grows : at < line .next
       grows = spot .grows
 
       text : List ℕ
       text = take (line .end - at) (drop at m)
 
-      text-long : length text ≡ line .end - at
+      long : length text ≡ line .end - at
       unfolding text
-      text-long = let a = length-take (line .end - at) (drop at m) in let b = length-drop at m in let c = stops-in in omega arith
+      long = text-long m at (line .end) (line .next) spot
 
       -- the text of the row stands within the line, and the code's part of the value runs from behind it to the line's end
       pub width-in : at + step .width ≤ line .end
@@ -173,7 +169,7 @@ module _ (table : List Row) (slotOf : ℕ → Slot) (m starts₀ ends₀ : List 
       width-in =
           let w = takes-within table here seen (take (line .end - at) (drop at m)) in
           let e : step .width ≡ stepOf table here seen (take (line .end - at) (drop at m)) .width = ap (λ (x : Step). x .width) is in
-          let l = text-long in
+          let l = long in
           let s = starts-in in
           omega arith
 
@@ -199,16 +195,15 @@ module _ (table : List Row) (slotOf : ℕ → Slot) (m starts₀ ends₀ : List 
       t : Taken
       t = record { slot = step .slot; line = n; value = drop (step .width) text }
 
-      end-is : endOf m n ≡ line .end
-      unfolding endOf
-      end-is = ap (endOf m) (k .count) ∙ ap (λ (x : ℕ). lineAt m x .end) (sym (k .placed)) ∙ ap (λ (x : Line). x .end) (sym stands)
+      ends-here : endOf m n ≡ line .end
+      ends-here = ap (endOf m) (k .count) ∙ end-is m (k .lines) at line (k .placed) stands
 
       -- the value begins where the row's text ends
       value-at : endOf m n - length (drop (step .width) text) ≡ at + step .width
       value-at =
-          let e = end-is in
+          let e = ends-here in
           let l = length-drop (step .width) text in
-          let x = text-long in
+          let x = long in
           let w = width-in in
           omega arith
 
@@ -224,10 +219,6 @@ module _ (table : List Row) (slotOf : ℕ → Slot) (m starts₀ ends₀ : List 
         unfolding rest marked
         rest-is = rw (d, add-one n)
 
-        next-placed : line .next ≡ startBehind m (suc (k .lines))
-        unfolding startBehind
-        next-placed = ap (λ (x : Line). x .next) stands ∙ ap (λ (x : ℕ). lineAt m x .next) (k .placed)
-
         pub again : Kept starts' ends' seen' (step .place) fault' (line .next) (n + 1)
         unfolding run t text
         again = go (eqb (step .slot) 0) refl s e f ahead-good
@@ -242,7 +233,7 @@ module _ (table : List Row) (slotOf : ℕ → Slot) (m starts₀ ends₀ : List 
                 record {
                   lines = suc (k .lines);
                   count = rw (add-one n, k .count);
-                  placed = next-placed;
+                  placed = next-is m (k .lines) at line (k .placed) stands;
                   few = let i = k .few in let j = grows in omega arith;
                   starts-long = ap length s ∙ k .starts-long;
                   ends-long = ap length e ∙ k .ends-long;
@@ -257,7 +248,7 @@ module _ (table : List Row) (slotOf : ℕ → Slot) (m starts₀ ends₀ : List 
                 record {
                   lines = suc (k .lines);
                   count = rw (add-one n, k .count);
-                  placed = next-placed;
+                  placed = next-is m (k .lines) at line (k .placed) stands;
                   few = let i = k .few in let j = grows in omega arith;
                   starts-long = ap length s ∙ length-set starts (step .slot) _ ∙ k .starts-long;
                   ends-long = ap length e ∙ length-set ends (step .slot) _ ∙ k .ends-long;
@@ -266,5 +257,5 @@ module _ (table : List Row) (slotOf : ℕ → Slot) (m starts₀ ends₀ : List 
                   whole = onto-more (k .front) t _ ∙ ap (λ (r : Run). onto (k .front) (withTaken t r)) rest-is ∙ ap (onto (k .front)) (sym a) ∙ k .whole;
                   first = f ∙ ap (λ (v : Verdict). then v (valueVerdict slotOf t)) (k .first) ∙ sym (verdict-more slotOf t (k .front));
                   begun = s ∙ rw (← value-at, k .begun) (sym (starts-more slotOf t m starts₀ (k .front)));
-                  ended = e ∙ ap (set ends (step .slot)) (sym end-is) ∙ ap (λ (x : List ℕ). set x (step .slot) (endOf m n)) (k .ended) ∙ sym (ends-more slotOf t m ends₀ (k .front));
+                  ended = e ∙ ap (set ends (step .slot)) (sym ends-here) ∙ ap (λ (x : List ℕ). set x (step .slot) (endOf m n)) (k .ended) ∙ sym (ends-more slotOf t m ends₀ (k .front));
                 }
