@@ -11,6 +11,7 @@ use Rattle.text.specs.Classes.{isBetween}
 use Rattle.lines.specs.Lines.{inFront, cutLines, bare, linesOf, lineAt, startBehind, endOf}
 use Rattle.layout.specs.Layout.{Taken, fits, isSeen, lacks, beneath, against, look, onward, scan, stepOf, withTaken, marked, behind, runOf, layoutOf}
 use Rattle.table.specs.Table.{table, slots, slotOf}
+use Rattle.search.specs.Search.{noLine, takenFor, spanFrom}
 use Rattle.walk.specs.Walk.{takenIn}
 use Rattle.mt515.specs.Body.{bodyOf}
 use Rattle.mt515.specs.Cases.{b, ended}
@@ -18,7 +19,7 @@ use Rattle.mt515.specs.Reading.{readOf}
 use Rattle.mt515.specs.declared.Reading.{Reading}
 use Rattle.mt515.proofs.Cases.{answered as read-b}
 use Rattle.field.specs.Cases.{fields, offsets, Answered}
-use Rattle.field.specs.Field.{noLine, takenFor, asked, lineFor, frontOf, fieldOf, placeOf}
+use Rattle.field.specs.Field.{asked, lineFor, frontOf, fieldOf, placeOf}
 
 -- of an accepted message: the line of a slot, its value, and where that begins
 lineIn : List ℕ → ℕ → Taken
@@ -36,7 +37,7 @@ module _ (m : List ℕ) (z : readOf m .number ≡ 0) where
   field-in slot = rw z
 
   offset-in : (slot : ℕ) → placeOf m slot .offset ≡ offsetIn m slot
-  unfolding placeOf fieldOf lineFor asked lineIn valueIn offsetIn
+  unfolding placeOf spanFrom lineFor asked lineIn valueIn offsetIn
   offset-in slot = rw z
 
   fields-in : (rows : List (ℕ × String)) → map (λ (row : ℕ × String). fieldOf m (row .0)) rows ≡ map (λ (row : ℕ × String). valueIn m (row .0)) rows

@@ -1,112 +1,64 @@
 -- What a place and a field are to each other, to the message and to its record: the value is the end of its line, and the line is
 -- the one that the message's sheet has for the slot.
 -- Assumes nothing.
-use Prim.Native.Nat.{ℕ, zero, suc, _+_, _-_, _≤_, _<_}
+use Prim.Native.Nat.{ℕ, suc, _+_, _-_, _≤_, _<_}
 use mathlib.Core.Path.{_≡_, refl, sym, ap, _∙_, subst}
 use mathlib.Core.Bool.{Bool, true, false, cond, true≢false}
 use mathlib.Core.List.{List, [], _∷_}
-use mathlib.Core.Logic.{_⊎_, inl, inr}
+use mathlib.Core.Logic.{inl}
 use native.Mathlib.Nat.{add-zero}
 use native.Mathlib.Omega.{arith}
 use lib.Dec.{leb, eqb}
-use lib.ListN.{length, take, drop, length-take, length-drop}
+use lib.ListN.{length, take, drop, length-drop}
 use lib.Seq.{drop-drop}
 use borrow.Author.Tests.{ne-eqb, eqb-true, leb-true}
 use Rattle.text.specs.Bytes.{bytes, begins}
 use Rattle.text.specs.Classes.{isBetween}
 use Rattle.text.proofs.Laws.{and-left, and-right}
-use Rattle.lines.specs.Lines.{endOf}
-use Rattle.layout.specs.Layout.{Taken}
+use Rattle.search.specs.Search.{noLine, takenFor, spanFrom}
+use Rattle.search.proofs.Laws.{Stood, found-stood, span-part}
 use Rattle.sheets.specs.Sheets.{Entry, edge, held, come, has, takenIn as takenOf}
 use Rattle.sheets.specs.Filled.{valueIn}
-use Rattle.sheets.proofs.Small.{is-false, of-both, or-one, or-left, or-right, or-case}
+use Rattle.sheets.proofs.Small.{is-false, or-one, or-left, or-right, or-case}
 use Rattle.sheets.proofs.Emits.{come-more}
 use Rattle.sheets.proofs.Checks.{mustSlots, firstSlots}
 use Rattle.sheets.proofs.Once.{slotsHeld}
 use Rattle.sheets.proofs.Musts.{musts, come-held}
 use Rattle.table.specs.Table.{table, fixedOf}
 use Rattle.table.specs.Tree.{tree, general, pool, details}
-use Rattle.mt515.specs.Body.{bodyOf}
 use Rattle.mt515.specs.Reading.{readOf}
-use Rattle.walk.proofs.Laws.{drop-front, Stands, Standing, standing}
 use Rattle.demands.specs.Lawful.{saidIn, Lawful}
 use Rattle.demands.proofs.Holds.{valued-at, not-header}
 use Rattle.demands.proofs.Accepting.{body-taken}
 use Rattle.demands.proofs.Demands.{demands}
-use Rattle.field.specs.Field.{noLine, takenFor, asked, lineFor, frontOf, fieldOf, placeOf}
+use Rattle.field.specs.Field.{asked, lineFor, frontOf, fieldOf, placeOf}
 use Rattle.field.specs.Finding.{nowhere, IsPart, IsRead, IsToldBehind, NoneRefused, NoneUnnamed, NoneAbsent, Finding}
 use Rattle.field.specs.declared.Stretch.{Stretch}
 use Rattle.field.proofs.Values.{told, told-begins, behind-front}
-use Rattle.field.proofs.Steps.{field-is, place-none, field-none, refused-none, unnamed-none, asked-of, is-named, line-is}
+use Rattle.field.proofs.Steps.{field-is, place-none, field-none, not-asked, refused-none, unnamed-none, asked-of, is-named, line-is, line-found}
 
 -- ---- a field is a part of its message
 
--- the line of a slot is one of those that were taken, and stands in the message; or it is no line
-stood : (m : List ℕ) (slot : ℕ) (ts : List Taken) → Standing m ts → (takenFor slot ts ≡ noLine) ⊎ Stands m (takenFor slot ts)
-unfolding takenFor Standing
-stood m slot [] h = inl refl
-stood m slot (t ∷ ts) h = of-both (λ (x : Taken). (x ≡ noLine) ⊎ Stands m x) (eqb (t .slot) slot) (λ e. inr (h .0)) (λ e. stood m slot ts (h .1))
-
-line-stood : (m : List ℕ) (slot : ℕ) → (lineFor m slot ≡ noLine) ⊎ Stands m (lineFor m slot)
-unfolding lineFor bodyOf
-line-stood m slot = of-both (λ (x : Taken). (x ≡ noLine) ⊎ Stands m x) (asked m slot) (λ e. stood m slot _ (standing m table)) (λ e. inl refl)
-
--- a stretch of a message, and what stands there
-PartOf : List ℕ → List ℕ → Stretch → Type 0
-PartOf m v s = (s .offset + s .count ≤ length m) × (take (s .count) (drop (s .offset) m) ≡ v)
-
--- what is left of a list is its end
-tail : (i : ℕ) (y : List ℕ) → drop (length y - length (drop i y)) y ≡ drop i y
-tail zero y = let n : length y - length y ≡ 0 = omega arith in rw n
-tail (suc i) [] = refl
-tail (suc i) (b ∷ y) =
-    let l = length-drop i y in
-    let n : suc (length y) - length (drop i y) ≡ suc (length y - length (drop i y)) = omega arith in
-    rw n (tail i y)
-
-stood-part : (m : List ℕ) (slot : ℕ) → Stands m (lineFor m slot) → PartOf m (fieldOf m slot) (placeOf m slot)
-unfolding PartOf placeOf fieldOf
-stood-part m slot d =
-    let t : Taken = lineFor m slot in
-    let end : ℕ = endOf m (t .line) in
-    let y : List ℕ = take end m in
-    let i : ℕ = end - length (t .value) + frontOf slot in
-    let v : List ℕ = drop (frontOf slot) (t .value) in
-    let a = d .within in
-    let b = d .long in
-    let short = length-drop (frontOf slot) (t .value) in
-    let size : length y ≡ end = rw length-take (omega arith) in
-    let is : drop i y ≡ v = sym (drop-drop (frontOf slot) (end - length (t .value)) y) ∙ ap (drop (frontOf slot)) (d .here) in
-    let same = ap length is in
-    let from : length y - length (drop i y) ≡ end - length v = omega arith in
-    let last : drop (end - length v) y ≡ v = ap (λ (k : ℕ). drop k y) (sym from) ∙ tail i y ∙ is in
-    let n : end - (end - length v) ≡ length v = omega arith in
-    (omega arith, ap (λ (k : ℕ). take k (drop (end - length v) m)) (sym n) ∙ sym (drop-front (end - length v) end m) ∙ last)
-
-is-part-of : (m : List ℕ) (slot : ℕ) → PartOf m (fieldOf m slot) (placeOf m slot)
-unfolding PartOf
-is-part-of m slot = go (line-stood m slot)
+line-stood : (m : List ℕ) (slot : ℕ) → Stood m (lineFor m slot)
+line-stood m slot = go (asked m slot) refl
   where
-    go : (lineFor m slot ≡ noLine) ⊎ Stands m (lineFor m slot) → PartOf m (fieldOf m slot) (placeOf m slot)
-    go (inl e) = subst (PartOf m (fieldOf m slot)) (place-none m slot (readOf m .number) refl e) (omega arith, sym (field-none m slot e))
-    go (inr d) = stood-part m slot d
+    go : (b : Bool) → asked m slot ≡ b → Stood m (lineFor m slot)
+    go true h = subst (Stood m) (line-found m slot h) (found-stood table m slot)
+    go false h = inl (not-asked m slot h)
 
 is-part : IsPart
-unfolding PartOf
-is-part m slot = is-part-of m slot
+unfolding placeOf fieldOf
+is-part m slot = span-part m (frontOf slot) (lineFor m slot) (line-stood m slot)
 
 -- the same of the code's answer
 module _ (m : List ℕ) (slot : ℕ) (r : Stretch) (is : r ≡ placeOf m slot) where
-  here : PartOf m (fieldOf m slot) r
-  here = subst (PartOf m (fieldOf m slot)) (sym is) (is-part-of m slot)
-
   pub stretch-in : r .offset + r .count ≤ length m
-  unfolding PartOf
-  stretch-in = here .0
+  stretch-in = rw is (is-part m slot .0)
 
   pub stretch-is : take (r .offset + r .count - r .offset) (drop (r .offset) m) ≡ fieldOf m slot
-  unfolding PartOf
-  stretch-is = let n : r .offset + r .count - r .offset ≡ r .count = omega arith in rw n (here .1)
+  stretch-is =
+      let n : r .offset + r .count - r .offset ≡ r .count = omega arith in
+      rw n (rw is (is-part m slot .1))
 
 -- ---- a field is what the record was read from
 
@@ -163,7 +115,7 @@ module _ (m : List ℕ) (w : Lawful m) (slot : ℕ) (named : isBetween 1 21 slot
       sym (place-none m slot 0 number-is (sym lawful-line ∙ none-taken (w .sheet) 5 slot n))
 
   none-absent-at : placeOf m slot ≡ nowhere 0 → has (come [] (w .sheet)) slot ≡ false
-  unfolding placeOf has
+  unfolding placeOf fieldOf spanFrom has
   none-absent-at e =
       is-false (has (come [] (w .sheet)) slot)
       (λ h. let s = field-some (come-held (w .sheet) [] slot h) in let c : length (fieldOf m slot) ≡ 0 = ap (λ (x : Stretch). x .count) e in let z : ⊥ = omega arith in z)

@@ -1,6 +1,6 @@
 -- A value that has its slot's form is longer than what stands in front of it: no field that is there is empty.
 -- Assumes nothing.
-use Prim.Native.Nat.{ℕ, _+_, _-_, _≤_, _<_}
+use Prim.Native.Nat.{ℕ, _+_, _≤_, _<_}
 use mathlib.Core.Path.{_≡_, refl, ap}
 use mathlib.Core.Bool.{Bool, true, false, _||_, not, cond}
 use mathlib.Core.List.{List, [], _∷_, _++_, append-nil}
@@ -21,7 +21,7 @@ use Rattle.demands.proofs.Holds.{number-begins, allBelow, all-at}
 use Rattle.field.specs.Field.{frontOf}
 
 -- the numbers of the slots with a value
-pub named : (slot : ℕ) → isBetween 1 21 slot ≡ true → (1 ≤ slot) × (slot ≤ 21)
+named : (slot : ℕ) → isBetween 1 21 slot ≡ true → (1 ≤ slot) × (slot ≤ 21)
 unfolding isBetween
 named slot h = (leb-true 1 slot (and-left (leb 1 slot) _ h), leb-true slot 21 (and-right (leb 1 slot) _ h))
 

@@ -1,10 +1,10 @@
 -- `field::place` meets its contract: a refused message, a number that names no slot, or a search. Assumes nothing.
 use mathlib.Core.Path.{refl}
+use borrow.Author.Needs.{needs}
 use Rattle.text.specs.Bytes.{bytes, parts}
 use Rattle.layout.specs.Rows.{rowOf, keyOf, firstRow, rowsOf}
 use Rattle.table.specs.Table.{table}
-use borrow.Author.Needs.{needs}
-use Rattle.field.proofs.Steps.{below-named, above-named, is-named, turned-away, unnamed, goes-on}
+use Rattle.field.proofs.Steps.{below-named, above-named, is-named, turned-away, unnamed, searched}
 use Rattle.field.proofs.place.Statement.{statement}
 use Rattle.field.proofs.place.Tie as tie
 
@@ -33,21 +33,22 @@ returns-3 c =
     let e = c .before .before .before in
     unnamed _ _ _ (e .before .before .read .ensures) (e .if1 .left) (above-named _ (c .before .if3 .taken)) _ (c .nowhere3 .ensures)
 
-slice-aggregate-search : tie.Need-slice-aggregate-search
-slice-aggregate-search c = search needs
+slice-aggregate-find : tie.Need-slice-aggregate-find
+slice-aggregate-find c = search needs
 
-behind-requires : tie.Need-behind-requires
-behind-requires c κs = search needs
+front-of-requires : tie.Need-front-of-requires
+front-of-requires c κs = search needs
+
+find-requires : tie.Need-find-requires
+find-requires c κs = search needs
 
 -- the bytes that are lent are the table's, by computation
-search-requires : tie.Need-search-requires
-unfolding bytes parts rowOf keyOf firstRow rowsOf table
-search-requires c κs =
-    let e = c .before .before .before .before in
-    (goes-on _ _ _ (e .before .before .read .ensures) (e .if1 .left) (is-named _ (c .before .before .before .if2 .left) (c .before .before .if3 .left)), c .behind .ensures, refl)
-
 returns-4 : tie.Need-returns-4
-returns-4 c = search needs
+unfolding bytes parts rowOf keyOf firstRow rowsOf table
+returns-4 c =
+    let t = c .before .before .before in
+    let e = t .before .before in
+    searched _ _ _ (e .before .before .read .ensures) (e .if1 .left) (is-named _ (t .before .if2 .left) (t .if3 .left)) _ refl _ (c .before .front-of .ensures) _ (c .find .ensures)
 
 pub place-spec : {M : Type 1} → statement M
 place-spec =
@@ -60,7 +61,7 @@ place-spec =
     returns-2
     nowhere-requires-3
     returns-3
-    slice-aggregate-search
-    behind-requires
-    search-requires
+    slice-aggregate-find
+    front-of-requires
+    find-requires
     returns-4)
