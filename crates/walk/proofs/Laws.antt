@@ -35,7 +35,7 @@ drop-front (suc k) (suc n) (b ∷ y) = drop-front k n y ∙ rw suc-sub-suc
 pub drop-take : (m : List ℕ) (at stop k : ℕ) → drop k (take (stop - at) (drop at m)) ≡ take (stop - (at + k)) (drop (at + k) m)
 drop-take m at stop k = let n : stop - at - k ≡ stop - (at + k) = omega arith in drop-front k (stop - at) (drop at m) ∙ rw (n, drop-drop k at m)
 
-between-is : (m : List ℕ) (from to : ℕ) → to ≤ length m → between m from to ≡ drop from (take to m)
+pub between-is : (m : List ℕ) (from to : ℕ) → to ≤ length m → between m from to ≡ drop from (take to m)
 unfolding between
 between-is m from to h = go (leb from to) refl
   where
@@ -122,7 +122,7 @@ module _ (m : List ℕ) (table : List Row) where
 -- ---- the places that a walk has kept
 
 -- a place kept for one slot
-kept-at : (m starts ends : List ℕ) (slot x e s : ℕ) → s < length starts → s < length ends
+pub kept-at : (m starts ends : List ℕ) (slot x e s : ℕ) → s < length starts → s < length ends
     → stretchOf m (set starts slot x) (set ends slot e) s ≡ cond (eqb slot s) (between m x e) (stretchOf m starts ends s)
 unfolding stretchOf
 kept-at m starts ends slot x e s l k = go (eqb slot s) refl
