@@ -9,19 +9,23 @@ use Rattle.layout.specs.Rows.{Row, field, mark, back, textAt, rowsOf}
 use Rattle.sheets.specs.Trees.{Field, Member, Tree, last, line, block, group, fieldRows, memberRows, rowsIn, tableOf}
 use Rattle.sheets.specs.Sheets.{Entry, edge, held, lineOf, linesIn}
 use Rattle.sheets.specs.Filled.{some, anyField, anyMember, anyIn, filledFields, filledMembers, filled}
+use Rattle.sheets.proofs.Order.{lines-both}
 use Rattle.fill.specs.Filling.{joined, ended, heldParts, lower, deeper, hasValue, anyRows, stands, opener, puts, walk, Lent, frontAt, valueAt, behindAt, partsAt, filling}
 use Rattle.fill.specs.Runs.{flat}
 use Rattle.fill.proofs.Runs.{flat-append}
 
 -- ---- lines joined
 
+pub joined-append : (ls ks : List (List ℕ)) → joined (ls ++ ks) ≡ joined ls ++ joined ks
+unfolding joined
+joined-append [] ks = refl
+joined-append (l ∷ ls) ks = rw (joined-append ls ks) (rw (append-assoc l (bytes "\r\n" ++ joined ls) (joined ks), append-assoc (bytes "\r\n") (joined ls) (joined ks)))
+
 abbrev text : List Entry → List ℕ
 text es = joined (linesIn es)
 
 text-append : (es ds : List Entry) → text (es ++ ds) ≡ text es ++ text ds
-unfolding joined linesIn
-text-append [] ds = refl
-text-append (e ∷ es) ds = rw (text-append es ds) (rw (append-assoc (lineOf e) (bytes "\r\n" ++ text es) (text ds), append-assoc (bytes "\r\n") (text es) (text ds)))
+text-append es ds = rw (lines-both es ds) (joined-append (linesIn es) (linesIn ds))
 
 module _ (value : ℕ → List ℕ) where
   -- ---- one of the slots of a block has a value

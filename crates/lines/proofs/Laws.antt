@@ -31,6 +31,18 @@ module _ (v p r : Verdict) (is : v ≡ p) where
   unfolding then
   go h = rw (← is, eq-eqb (v .number) 0 h)
 
+pub pass-then : (v : Verdict) → then pass v ≡ v
+unfolding then pass refused
+pass-then v = refl
+
+pub then-then : (a b c : Verdict) → then (then a b) c ≡ then a (then b c)
+unfolding then
+then-then a b c = on (eqb (a .number) 0) refl
+  where
+    on : (t : Bool) → eqb (a .number) 0 ≡ t → cond (eqb (cond t b a .number) 0) c (cond t b a) ≡ cond t (cond (eqb (b .number) 0) c b) a
+    on true e = refl
+    on false e = rw e
+
 -- a chain that passes has passed at each place
 pub then-zero : (v w : Verdict) → then v w .number ≡ 0 → (v .number ≡ 0) × (w .number ≡ 0)
 unfolding then

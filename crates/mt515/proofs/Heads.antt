@@ -1,79 +1,28 @@
 -- The mathematics of the header, over plain lists: four lines one behind the other, wherever the message ends, and the stretches
 -- of the first two.
 -- Assumes nothing.
-use Prim.Native.Nat.{ℕ, suc, _+_, _-_, _≤_, _<_}
-use mathlib.Core.Path.{_≡_, refl, sym, ap, _∙_}
+use Prim.Native.Nat.{ℕ, suc, _-_, _<_}
+use mathlib.Core.Path.{_≡_, refl, ap}
 use mathlib.Core.Bool.{Bool, true, false, cond}
 use mathlib.Core.List.{List, []}
 use native.Mathlib.Nat.{add-zero, sub-zero}
 use native.Mathlib.Omega.{arith}
-use lib.Dec.{ltb, eqb}
-use lib.ListN.{length, take, drop, getD, set, replicate, drop-of-length-le, getD-replicate}
-use lib.Seq.{take-nil, drop-drop, getD-drop, getD-set-other}
-use borrow.Author.Tests.{le-leb, ltb-true, ltb-false, eqb-true, eqb-false}
-use Rattle.text.specs.Bytes.{bytes, same, before}
+use lib.Dec.{eqb}
+use lib.ListN.{take, getD, set, replicate, getD-replicate}
+use lib.Seq.{getD-set-other}
+use borrow.Author.Tests.{eqb-true, eqb-false}
+use Rattle.text.specs.Bytes.{bytes, same}
 use Rattle.lines.specs.Verdicts.{refused, pass}
-use Rattle.lines.specs.Lines.{bare, linesOf, lineAt, startBehind, endOf}
+use Rattle.lines.specs.Lines.{lineAt, startBehind, endOf}
 use Rattle.lines.specs.declared.Verdict.{Verdict}
 use Rattle.lines.specs.declared.Line.{Line}
-use Rattle.lines.proofs.Laws.{located, lines-next, lines-none, begins}
+use Rattle.lines.proofs.Lined.{Lined, lined}
 use Rattle.forms.specs.Forms.{isCode}
 use Rattle.stretches.specs.Stretches.{slotCount, between, stretchOf}
+use Rattle.reader.proofs.Laws.{nothing, line-between}
 use Rattle.mt515.specs.Body.{lineOf, headerVerdict, headerPass, headerValue}
 use Rattle.mt515.specs.Walks.{headOf}
 use Rattle.mt515.specs.declared.header.Header.{Header}
-
--- a stretch within the message
-pub between-is : (m : List ℕ) (from to : ℕ) → from ≤ to → to ≤ length m → between m from to ≡ take (to - from) (drop from m)
-unfolding between
-between-is m from to h g = rw (le-leb from to h, le-leb to (length m) g)
-
--- the k-th line of a message, from the place where it begins
-pub record Lined (m : List ℕ) (k at : ℕ) (r : Line) : Type 0 where
-  pub starts : at ≤ r .end
-  pub stops : r .end ≤ length m
-  pub within : r .next ≤ length m
-  pub here : take (r .end - at) (drop at m) ≡ lineOf m k
-  pub rest : linesOf (drop (r .next) m) ≡ drop (k + 1) (linesOf m)
-
-end-here : (m : List ℕ) (at : ℕ) → length m ≤ at → lineAt m at .end ≡ at
-unfolding lineAt before bare
-end-here m at h = rw (drop-of-length-le m h) (add-zero at)
-
-pub lined : (m : List ℕ) (k at : ℕ) (r : Line) → r ≡ lineAt m at → at ≤ length m → linesOf (drop at m) ≡ drop k (linesOf m) → Lined m k at r
-unfolding lineOf
-lined m k at r e h l = go (ltb at (length m)) refl
-  where
-    n : (r .next ≤ length m) × (linesOf (drop (r .next) m) ≡ drop 1 (linesOf (drop at m)))
-    n = lines-next m at r e h
-
-    rest : linesOf (drop (r .next) m) ≡ drop (k + 1) (linesOf m)
-    rest = n .1 ∙ ap (drop 1) l ∙ drop-drop 1 k (linesOf m)
-
-    first : getD (linesOf (drop at m)) 0 [] ≡ getD (linesOf m) k []
-    first = ap (λ (ls : List (List ℕ)). getD ls 0 []) l ∙ getD-drop k (linesOf m) 0 [] ∙ ap (λ (i : ℕ). getD (linesOf m) i []) (add-zero k)
-
-    go : (b : Bool) → ltb at (length m) ≡ b → Lined m k at r
-    go true t =
-        let p = located m at r e (ltb-true at (length m) t) in
-        record {
-          starts = p .starts;
-          stops = let a = p .ends in let b = p .within in omega arith;
-          within = n .0;
-          here = sym (ap (λ (ls : List (List ℕ)). getD ls 0 []) (p .go-on)) ∙ first;
-          rest = rest;
-        }
-    go false t =
-        let g : length m ≤ at = ltb-false at (length m) t in
-        let end : r .end ≡ at = ap (λ (x : Line). x .end) e ∙ end-here m at g in
-        let none : drop at m ≡ [] = drop-of-length-le m g in
-        record {
-          starts = omega arith;
-          stops = omega arith;
-          within = n .0;
-          here = ap (take (r .end - at)) none ∙ take-nil (r .end - at) ∙ sym (ap (λ (ls : List (List ℕ)). getD ls 0 []) (ap linesOf none ∙ lines-none)) ∙ first;
-          rest = rest;
-        }
 
 -- four lines, one behind the other
 module _ (m : List ℕ) (a b c d : Line) (ea : a ≡ lineAt m 0) (eb : b ≡ lineAt m (a .next)) (ec : c ≡ lineAt m (b .next)) (ed : d ≡ lineAt m (c .next)) where
@@ -134,17 +83,9 @@ pub head-verdict : (m : List ℕ) (r : Header) → r ≡ headOf m → r .verdict
 unfolding headOf
 head-verdict m r e = ap (λ (x : Header). x .verdict) e
 
-nothing : (m : List ℕ) → between m 0 0 ≡ []
-unfolding between
-nothing m = rw (le-leb 0 (length m) (omega arith))
-
--- a line as a stretch
-line-between : (m : List ℕ) (k : ℕ) → between m (startBehind m k) (endOf m (suc k)) ≡ lineOf m k
-unfolding endOf
-line-between m k =
-    let b = begins m k in
-    let l = lined m k (startBehind m k) (lineAt m (startBehind m k)) refl (b .within) (b .rest) in
-    between-is m (startBehind m k) (lineAt m (startBehind m k) .end) (l .starts) (l .stops) ∙ l .here
+line-kept : (m : List ℕ) (k : ℕ) → between m (startBehind m k) (endOf m (suc k)) ≡ lineOf m k
+unfolding lineOf
+line-kept m k = rw add-zero at (line-between m k 0)
 
 pub header-kept : (m : List ℕ) (s : ℕ) → s < slotCount → stretchOf m (headOf m .starts) (headOf m .ends) s ≡ headerValue m s
 unfolding headOf stretchOf headerValue startBehind
@@ -160,8 +101,8 @@ header-kept m s h = go (eqb s 28) (eqb s 29) refl refl
     ends = set (set z 28 (endOf m 1)) 29 (endOf m 2)
 
     go : (a b : Bool) → eqb s 28 ≡ a → eqb s 29 ≡ b → between m (getD starts s 0) (getD ends s 0) ≡ cond a (lineOf m 0) (cond b (lineOf m 1) [])
-    go true b p q = rw (eqb-true s 28 p) (line-between m 0)
-    go false true p q = rw (eqb-true s 29 q) (line-between m 1)
+    go true b p q = rw (eqb-true s 28 p) (line-kept m 0)
+    go false true p q = rw (eqb-true s 29 q) (line-kept m 1)
     go false false p q =
         let i : s ≡ 28 → ⊥ = eqb-false s 28 p in
         let j : s ≡ 29 → ⊥ = eqb-false s 29 q in

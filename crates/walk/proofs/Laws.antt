@@ -23,7 +23,7 @@ use Rattle.walk.specs.declared.Body.{Body}
 
 -- ---- parts of a message
 
-between-is : (m : List ℕ) (from to : ℕ) → to ≤ length m → between m from to ≡ drop from (take to m)
+pub between-is : (m : List ℕ) (from to : ℕ) → to ≤ length m → between m from to ≡ drop from (take to m)
 unfolding between
 between-is m from to h = go (leb from to) refl
   where
@@ -65,7 +65,7 @@ module _ (m : List ℕ) (table : List Row) where
 -- ---- the places that a walk has kept
 
 -- a place kept for one slot
-kept-at : (m starts ends : List ℕ) (slot x e s : ℕ) → s < length starts → s < length ends
+pub kept-at : (m starts ends : List ℕ) (slot x e s : ℕ) → s < length starts → s < length ends
     → stretchOf m (set starts slot x) (set ends slot e) s ≡ cond (eqb slot s) (between m x e) (stretchOf m starts ends s)
 unfolding stretchOf
 kept-at m starts ends slot x e s l k = go (eqb slot s) refl

@@ -13,7 +13,7 @@ use Rattle.lines.specs.Verdicts.{refused, pass, then}
 use Rattle.lines.specs.Lines.{linesOf, lineAt, startBehind, endOf}
 use Rattle.lines.specs.declared.Verdict.{Verdict}
 use Rattle.lines.specs.declared.Line.{Line}
-use Rattle.lines.proofs.Laws.{Located, located, lines-behind, begins, end-is, next-is, drop-take, text-long}
+use Rattle.lines.proofs.Laws.{pass-then, then-then, Located, located, lines-behind, begins, end-is, next-is, drop-take, text-long}
 use Rattle.forms.specs.Forms.{Slot, valueNumber}
 use Rattle.layout.specs.Rows.{Row}
 use Rattle.layout.specs.Layout.{Taken, Run, refusedAt, taken, stepOf, runOf, behind, withTaken, marked, layoutOf}
@@ -44,18 +44,6 @@ onto-more : (ts : List Taken) (t : Taken) (run : Run) → onto (ts ++ t ∷ []) 
 unfolding onto
 onto-more [] t run = refl
 onto-more (u ∷ ts) t run = ap (withTaken u) (onto-more ts t run)
-
-pass-then : (v : Verdict) → then pass v ≡ v
-unfolding then pass refused
-pass-then v = refl
-
-then-then : (a b c : Verdict) → then (then a b) c ≡ then a (then b c)
-unfolding then
-then-then a b c = go (eqb (a .number) 0) refl
-  where
-    go : (t : Bool) → eqb (a .number) 0 ≡ t → cond (eqb (cond t b a .number) 0) c (cond t b a) ≡ cond t (cond (eqb (b .number) 0) c b) a
-    go true e = refl
-    go false e = rw e
 
 -- a verdict that is none is the pass
 plain : (slotOf : ℕ → Slot) (t : Taken) → then (valueVerdict slotOf t) pass ≡ valueVerdict slotOf t

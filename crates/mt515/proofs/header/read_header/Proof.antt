@@ -5,7 +5,9 @@ use native.Mathlib.Omega.{arith}
 use denote.Ref.{now}
 use Rattle.lines.specs.Lines.{lineAt, startBehind, endOf}
 use Rattle.lines.specs.declared.Line.{Line}
-use Rattle.mt515.proofs.Heads.{Lined, one, two, three, four, four-judged, from-start, head-is}
+use Rattle.lines.proofs.Lined.{Lined}
+use Rattle.mt515.specs.Body.{lineOf}
+use Rattle.mt515.proofs.Heads.{one, two, three, four, four-judged, from-start, head-is}
 use borrow.Author.Needs.{needs}
 use Rattle.mt515.proofs.header.read_header.Statement.{statement}
 use Rattle.mt515.proofs.header.read_header.Tie as tie
@@ -78,7 +80,7 @@ array-write-ends-2 : tie.Need-array-write-ends-2
 array-write-ends-2 c = search needs
 
 returns : tie.Need-returns
-unfolding startBehind endOf
+unfolding startBehind endOf lineOf
 returns c =
     let d = c .before .before .before .before .before in
     let m = now (d .before .before .before .before .before .args .message) in
