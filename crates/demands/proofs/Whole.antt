@@ -13,6 +13,7 @@ use Rattle.text.specs.Classes.{isBetween, inClass, isC, isUpper, isDigit, allIn
 use Rattle.text.specs.declared.Class.the-variants.{C}
 use Rattle.text.specs.Texts.{contents}
 use Rattle.text.proofs.Laws.{and-left, and-right, and-both, in-form-facts}
+use Rattle.text.proofs.Printed.{printed, printed-append}
 use Rattle.forms.specs.Forms.{Slot, other}
 use Rattle.lines.proofs.Laws.{plain, Closed}
 use Rattle.trade.specs.declared.Trade.{Trade}
@@ -29,7 +30,7 @@ use Rattle.table.proofs.Trees.{ends-at}
 use Rattle.values.specs.Values.{valueOf, values, optional}
 use Rattle.values.specs.Writable.{inForm, tests}
 use Rattle.values.proofs.Laws.{test}
-use Rattle.values.proofs.Printed.{printed, printed-append, value-printed}
+use Rattle.values.proofs.Printed.{value-printed}
 use Rattle.judge.specs.Judging.{judgeOf}
 use Rattle.judge.proofs.Laws.{judge-zero}
 use Rattle.message.specs.Messages.{behindKey, headerOf, linesFor}
