@@ -4,14 +4,12 @@ use Prim.Native.Nat.{ℕ}
 use mathlib.Core.Path.{_≡_, refl, sym, ap, _∙_}
 use mathlib.Core.Bool.{Bool, true, false, _&&_, true≢false}
 use mathlib.Core.List.{List, [], _∷_}
-use lib.Dec.{eqb, leb}
-use lib.ListN.{length}
+use lib.Dec.{eqb}
 use borrow.Author.Tests.{eqb-true}
 use Rattle.text.specs.Bytes.{begins, same}
 use Rattle.text.specs.Classes.{isC, inClass, allIn}
 use Rattle.text.specs.declared.Class.the-variants.{C}
-use Rattle.text.proofs.Laws.{and-left, and-right, same-eq, begins-append}
-use Rattle.forms.specs.Forms.{isCode}
+use Rattle.text.proofs.Laws.{and-left, same-eq, begins-append}
 use Rattle.sheets.proofs.Small.{is-false}
 use mathlib.Core.List.{append-nil}
 
@@ -29,7 +27,3 @@ code-same x k v n h =
     let all : begins (x ∷ k) (x ∷ k) ≡ true = rw (append-nil (x ∷ k)) at (begins-append (x ∷ k) []) in
     is-false (same (x ∷ k) v)
     (λ e. true≢false (sym all ∙ ap (begins (x ∷ k)) (same-eq (x ∷ k) v e) ∙ code-begins x k v n h))
-
-pub code-all : (least most : ℕ) (v : List ℕ) → isCode least most v ≡ true → allIn C v ≡ true
-unfolding isCode
-code-all least most v h = and-right (leb (length v) most) _ (and-right (leb least (length v)) _ h)

@@ -14,7 +14,8 @@ use borrow.Author.Tests.{eqb-true, eqb-false, ne-eqb, not-true, leb-true}
 use Rattle.text.specs.Bytes.{bytes, begins, same}
 use Rattle.text.specs.Classes.{isBetween}
 use Rattle.text.proofs.Laws.{and-left, and-right, begins-is, same-eq}
-use Rattle.forms.specs.Forms.{valueNumber, isCode}
+use Rattle.forms.specs.Forms.{isCode}
+use Rattle.forms.proofs.Laws.{value-begins}
 use Rattle.lines.specs.Verdicts.{refused, pass}
 use Rattle.lines.specs.declared.Verdict.{Verdict}
 use Rattle.trade.specs.Records.{kindIn}
@@ -26,7 +27,7 @@ use Rattle.sheets.proofs.Checks.{slotsOf, mustSlots, firstSlots}
 use Rattle.sheets.proofs.Once.{slotsHeld}
 use Rattle.sheets.proofs.Order.{value-absent}
 use Rattle.sheets.proofs.Musts.{musts}
-use Rattle.table.specs.Table.{fixedOf, numberOf}
+use Rattle.table.specs.Table.{slotOf, fixedOf, numberOf}
 use Rattle.table.specs.Tree.{general, pool, details, tree}
 use Rattle.values.specs.Values.{optional}
 use Rattle.values.proofs.Laws.{Filled, Held}
@@ -43,13 +44,9 @@ valued-at (held i k v ∷ es) s h e =
     of-both (λ x. numberOf s x ≡ 0) (eqb i s) (λ q. rw (← (eqb-true i s q)) (h .0)) (λ q. valued-at es s (h .1) (rw q at e))
 
 -- a value of its form begins with the fixed text
-ten-not : (b : Bool) (x : ℕ) → cond b x 10 ≡ 0 → b ≡ true
-ten-not true x h = refl
-ten-not false x h = let z : ⊥ = omega arith in absurd z
-
 pub number-begins : (slot : ℕ) (v : List ℕ) → numberOf slot v ≡ 0 → begins (fixedOf slot) v ≡ true
-unfolding numberOf valueNumber
-number-begins slot v h = ten-not (begins (fixedOf slot) v) _ h
+unfolding numberOf
+number-begins slot v h = value-begins (slotOf slot) v h
 
 pub no-length : (v : List ℕ) → eqb (length v) 0 ≡ true → v ≡ []
 no-length [] e = refl

@@ -16,6 +16,7 @@ use Rattle.text.specs.declared.Class.the-variants.{C}
 use Rattle.text.specs.Texts.{contents}
 use Rattle.text.proofs.Laws.{and-left, and-right, begins-is}
 use Rattle.forms.specs.Forms.{unless, valueNumber, formNumber, isCode, isWord, wordAt}
+use Rattle.forms.proofs.Laws.{unless-good, code-all}
 use Rattle.amount.specs.Amounts.{tidy}
 use Rattle.calendar.specs.Dates.{momentRead, momentFrom}
 use Rattle.digits.specs.Numerals.{fixedOf as digitsIn}
@@ -40,7 +41,7 @@ use Rattle.fill.specs.Filling.{joined, isAny}
 use Rattle.message.specs.Messages.{behindKey, headerOf, linesFor, messageOf}
 use Rattle.message.specs.Plain.{links, parties, tidyBehind, tidyLine, plainLines, plainOf}
 use Rattle.demands.specs.Lawful.{Valued, saidIn, Lawful}
-use Rattle.demands.proofs.Codes.{code-begins, code-same, code-all}
+use Rattle.demands.proofs.Codes.{code-begins, code-same}
 use Rattle.demands.proofs.Holds.{no-length, allBelow, all-at, valued-at, number-begins, must-or-may, not-header, Headed, header-is}
 use Rattle.demands.proofs.Accepting.{Cut, cut, sheet-full}
 
@@ -109,17 +110,12 @@ module _ (m : List ℕ) (es : List Entry) (l : Sheet tree es) (h : Valued es) (h
 
   fixed-slot : (s : ℕ) → s < 32 → valueOf r s ≡ [] → ((v : List ℕ) → tidied s v ≡ v)
       → ((v : List ℕ) → numberOf s (fixedOf s ++ v) ≡ unless (eqb (length v) 0)) → has (mustSlots tree) s ≡ true → Slot s
-  unfolding unless
   fixed-slot s low e t n must =
       let q = musts tree es s l must in
       let z = valued-at es s h q in
       let w = begins-is (fixedOf s) (valueIn es s) (number-begins s (valueIn es s) z) in
-      let none : behind s ≡ [] = no-length (behind s) (zero-length (eqb (length (behind s)) 0) (sym (n (behind s)) ∙ ap (numberOf s) (sym w) ∙ z)) in
+      let none : behind s ≡ [] = no-length (behind s) (unless-good (eqb (length (behind s)) 0) (sym (n (behind s)) ∙ ap (numberOf s) (sym w) ∙ z)) in
       slot-from s low (e ∙ sym (t (behind s) ∙ none)) (λ o. absurd (true≢false (sym q ∙ o)))
-    where
-      zero-length : (b : Bool) → unless b ≡ 0 → b ≡ true
-      zero-length true d = refl
-      zero-length false d = let w : ⊥ = omega arith in absurd w
 
   slot-30 : Slot 30
   unfolding valueOf values tidied mustSlots firstSlots tree general pool details has slotOf slots formNumber

@@ -13,6 +13,7 @@ use Rattle.text.specs.Classes.{isBetween, inClass, isC, isUpper, isDigit, allIn
 use Rattle.text.specs.declared.Class.the-variants.{C}
 use Rattle.text.specs.Texts.{contents}
 use Rattle.text.proofs.Laws.{and-left, and-right, and-both, in-form-facts}
+use Rattle.text.proofs.Printed.{printed, printed-append}
 use Rattle.forms.specs.Forms.{Slot, other}
 use Rattle.lines.proofs.Laws.{plain, Closed}
 use Rattle.trade.specs.declared.Trade.{Trade}
@@ -23,13 +24,13 @@ use Rattle.sheets.specs.Plain.{anyLine}
 use Rattle.sheets.proofs.Small.{of-both, or-none, or-left, or-right}
 use Rattle.sheets.proofs.Order.{lines-both}
 use Rattle.sheets.proofs.Ends.{lastLine, filled-ends}
-use Rattle.table.specs.Table.{slot, slots, slotOf, fixedOf}
+use Rattle.table.specs.Table.{slot, slots, lines, slotOf, fixedOf}
 use Rattle.table.specs.Tree.{general, pool, details, tree}
 use Rattle.table.proofs.Trees.{ends-at}
 use Rattle.values.specs.Values.{valueOf, values, optional}
 use Rattle.values.specs.Writable.{inForm, tests}
 use Rattle.values.proofs.Laws.{test}
-use Rattle.values.proofs.Printed.{printed, printed-append, value-printed}
+use Rattle.values.proofs.Printed.{value-printed}
 use Rattle.judge.specs.Judging.{judgeOf}
 use Rattle.judge.proofs.Laws.{judge-zero}
 use Rattle.message.specs.Messages.{behindKey, headerOf, linesFor}
@@ -119,11 +120,11 @@ tree-last = refl
 
 fixed-printed : (s : ℕ) → printed (fixedOf s) ≡ true
 unfolding printed isBetween slotOf slots bytes allBelow
-fixed-printed s = on (ltb s 32) refl
+fixed-printed s = on (ltb s 42) refl
   where
-    on : (b : Bool) → ltb s 32 ≡ b → printed (fixedOf s) ≡ true
-    on true e = all-at 32 (λ i. printed (fixedOf i)) refl s (ltb-true s 32 e)
-    on false e = ap (λ (x : Slot). printed (x .fixed)) (List·getD-eq-default slots (slot "" other) (ltb-false s 32 e))
+    on : (b : Bool) → ltb s 42 ≡ b → printed (fixedOf s) ≡ true
+    on true e = all-at 42 (λ i. printed (fixedOf i)) refl s (ltb-true s 42 e)
+    on false e = ap (λ (x : Slot). printed (x .fixed)) (List·getD-eq-default lines (slot "" other) (ltb-false s 42 e))
 
 -- ---- the header
 

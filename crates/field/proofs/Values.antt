@@ -16,6 +16,7 @@ use Rattle.amount.specs.Amounts.{amountRead, isAmount, whole}
 use Rattle.calendar.specs.Dates.{dateRead, dateFrom, momentRead, momentFrom}
 use Rattle.forms.specs.Forms.{valueNumber, formNumber, unless, isCode, isWord, wordAt}
 use Rattle.forms.specs.Narrative.{isNarrative}
+use Rattle.forms.proofs.Laws.{unless-good}
 use Rattle.table.specs.Table.{slots, slotOf, fixedOf, numberOf}
 use Rattle.demands.proofs.Holds.{number-begins, allBelow, all-at}
 use Rattle.field.specs.Field.{frontOf}
@@ -27,14 +28,9 @@ named slot h = (leb-true 1 slot (and-left (leb 1 slot) _ h), leb-true slot 21 (a
 
 -- ---- the narrative
 
-ten : (b : Bool) → unless b ≡ 0 → b ≡ true
-unfolding unless
-ten true h = refl
-ten false h = let z : ⊥ = omega arith in absurd z
-
 pub told : (v : List ℕ) → numberOf 21 v ≡ 0 → isNarrative (drop (length (fixedOf 21)) v) ≡ true
 unfolding numberOf valueNumber slotOf slots formNumber
-told v h = ten _ (rw (number-begins 21 v h) at h)
+told v h = unless-good _ (rw (number-begins 21 v h) at h)
 
 pub told-begins : (v : List ℕ) → isNarrative v ≡ true → begins (bytes "/TDSV") v ≡ true
 unfolding isNarrative

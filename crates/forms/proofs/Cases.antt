@@ -1,12 +1,19 @@
--- Each text of the table gets what stands beside it, by computation.
+-- Each text of the tables gets what stands beside it, by computation.
 -- Assumes nothing.
 use mathlib.Core.Path.{refl}
 use Rattle.text.specs.Bytes.{bytes, begins, same}
 use Rattle.text.specs.Classes.{allIn, inClass, isC, isUpper, isDigit, isBetween}
 use Rattle.forms.specs.Codes.{isCode, wordAt, isWord}
 use Rattle.forms.specs.Narrative.{serviceIn, hasPeriod, periodIn, behindPeriod, hasReason, reasonIn, goodPeriod, goodReason, isNarrative}
+use Rattle.forms.specs.Forms.{unless, formNumber, valueNumber}
+use Rattle.forms.specs.Slots.{reaches, lineIn, textIn, wordsIn, formOf, formIn, slotAt}
 use Rattle.forms.specs.Cases.{cases, Answered}
+use Rattle.forms.specs.Samples.{sample, values, Held}
 
 pub answered : Answered
 unfolding cases bytes begins same allIn inClass isC isUpper isDigit isBetween isCode wordAt isWord serviceIn hasPeriod periodIn behindPeriod hasReason reasonIn goodPeriod goodReason isNarrative
 answered = refl
+
+pub held : Held
+unfolding sample values bytes begins same isCode wordAt isWord unless formNumber valueNumber reaches lineIn textIn wordsIn formOf formIn slotAt
+held = record { numbers = refl; places = refl; bare = refl; unreached = refl; empty = refl }

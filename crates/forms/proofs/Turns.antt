@@ -1,46 +1,66 @@
 -- The mathematics of the crate's functions, over plain lists and numbers: each turn of the search for a word, the parts of a
--- narrative, and the parts of a slot's bytes.
+-- narrative, and the lines of a slot's bytes.
 -- Assumes nothing.
-use Prim.Native.Nat.{ℕ, _+_, _-_, _*_, _/_, _%_, _≤_, _<_}
+use Prim.Native.Nat.{ℕ, zero, suc, _+_, _-_, _*_, _/_, _%_, _≤_, _<_}
 use mathlib.Core.Path.{_≡_, refl, sym, ap, _∙_}
 use mathlib.Core.Bool.{true, false}
 use mathlib.Core.List.{List, [], _∷_}
-use native.Mathlib.Nat.{add-zero, le-of-lt}
+use native.Mathlib.Nat.{add-zero, add-suc, suc-add, le-of-lt, not-suc-le-zero, le-of-suc-le-suc}
+use native.Mathlib.Numerals.{add-one}
 use native.Mathlib.Omega.{arith}
 use lib.Dec.{ltb}
 use lib.ListN.{length, take, drop, getD, length-take, length-drop, drop-of-length-le, List·getD-eq-default}
 use lib.Seq.{getD-drop, take-all}
 use borrow.Author.Tests.{le-leb, lt-leb, le-ltb, lt-ltb}
-use Rattle.text.specs.Bytes.{begins, same, parts}
+use Rattle.text.specs.Bytes.{begins, same}
 use Rattle.text.proofs.Laws.{parts-from, length-parts, rest-of}
 use Rattle.forms.specs.Forms.{Form, Slot, nothing, codes, words, amount, date, moment, narrative, other, wordAt, isWord, unless, formNumber, valueNumber}
 use Rattle.forms.specs.Narrative.{services, serviceIn, periodIn}
-use Rattle.forms.specs.Slots.{wordsOf, formOf, slotAt}
+use Rattle.forms.specs.Slots.{wordsOf, reaches, lineIn, textIn, wordsIn, formOf, formIn, slotAt}
 
 -- ---- the search for a word
 
-module _ (t v : List ℕ) (i : ℕ) (inv : wordAt (wordsOf t) v ≡ i + wordAt (drop i (wordsOf t)) v) where
-  next-word : i < length t / 4 → drop i (wordsOf t) ≡ take 4 (drop (i * 4) t) ∷ drop (i + 1) (wordsOf t)
-  unfolding wordsOf
-  next-word h = parts-from 4 (length t / 4) i t h
+-- the words passed, and the place among the rest
+module _ (ws : List (List ℕ)) (v : List ℕ) (i : ℕ) (inv : wordAt ws v ≡ i + wordAt (drop i ws) v) where
+  module _ (w : List ℕ) (next : drop i ws ≡ w ∷ drop (i + 1) ws) where
+    pub word-here : same w v ≡ true → i ≡ wordAt ws v
+    unfolding wordAt
+    word-here e = sym (inv ∙ rw (next, e) (add-zero i))
 
-  -- the code's part ends at its start and four more
-  four : i * 4 + 4 - i * 4 ≡ 4
-  four = omega arith
+    pub word-further : same w v ≡ false → wordAt ws v ≡ i + 1 + wordAt (drop (i + 1) ws) v
+    unfolding wordAt
+    word-further e = inv ∙ rw (next, e) (omega arith)
 
-  pub word-here : i < length t / 4 → same (take (i * 4 + 4 - i * 4) (drop (i * 4) t)) v ≡ true → i ≡ wordAt (wordsOf t) v
+  pub word-none : length ws ≤ i → i ≡ wordAt ws v
   unfolding wordAt
-  word-here h e = let f : same (take 4 (drop (i * 4) t)) v ≡ true = rw four at e in sym (inv ∙ rw (next-word h, f) (add-zero i))
+  word-none h = sym (inv ∙ rw (drop-of-length-le ws h) (add-zero i))
 
-  pub word-further : i < length t / 4 → same (take (i * 4 + 4 - i * 4) (drop (i * 4) t)) v ≡ false → wordAt (wordsOf t) v ≡ i + 1 + wordAt (drop (i + 1) (wordsOf t)) v
-  unfolding wordAt
-  word-further h e = let f : same (take 4 (drop (i * 4) t)) v ≡ false = rw four at e in inv ∙ rw (next-word h, f) (omega arith)
+-- the next of some words of four letters, which the code's part ends at its start and four more; and their number
+pub four-from : (t : List ℕ) (i : ℕ) → i < length t / 4
+    → drop i (wordsOf t) ≡ take (i * 4 + 4 - i * 4) (drop (i * 4) t) ∷ drop (i + 1) (wordsOf t)
+unfolding wordsOf
+four-from t i h = let e : i * 4 + 4 - i * 4 ≡ 4 = omega arith in rw e (parts-from 4 (length t / 4) i t h)
 
-  pub word-none : length t / 4 ≤ i → i ≡ wordAt (wordsOf t) v
-  unfolding wordAt wordsOf
-  word-none h =
-      let l : length (parts 4 (length t / 4) t) ≤ i = rw length-parts h in
-      sym (inv ∙ rw (drop-of-length-le (parts 4 (length t / 4) t) l) (add-zero i))
+pub fours : (t : List ℕ) → length (wordsOf t) ≡ length t / 4
+unfolding wordsOf
+fours t = length-parts 4 (length t / 4) t
+
+-- the next of the words of some lines, and their number
+next-line : (t : List ℕ) (first count k : ℕ) → k < count → drop k (wordsIn t first count) ≡ textIn t (first + k) ∷ drop (k + 1) (wordsIn t first count)
+unfolding wordsIn
+next-line t first zero k h = absurd (not-suc-le-zero h)
+next-line t first (suc count) zero h = rw add-zero
+next-line t first (suc count) (suc k) h = next-line t (suc first) count k (le-of-suc-le-suc h) ∙ simp (suc-add, add-suc, add-one)
+
+pub line-from : (t : List ℕ) (first count k : ℕ) → k < count → (w : List ℕ) → w ≡ slotAt t (first + k) .fixed
+    → drop k (wordsIn t first count) ≡ w ∷ drop (k + 1) (wordsIn t first count)
+unfolding slotAt
+line-from t first count k h w e = rw e (next-line t first count k h)
+
+pub word-lines : (t : List ℕ) (first count : ℕ) → length (wordsIn t first count) ≡ count
+unfolding wordsIn
+word-lines t first zero = refl
+word-lines t first (suc count) = ap suc (word-lines t (suc first) count)
 
 -- ---- the parts of a narrative
 
@@ -74,15 +94,11 @@ module _ (v : List ℕ) (k : ℕ) (e : k ≡ wordAt services (serviceIn v)) wher
 
 -- ---- the forms by their numbers
 
--- a value is a word where its place is below their number; the code's part ends at its start and the words' bytes more
-pub words-number : (t v : List ℕ) (n m k : ℕ) → length t ≡ 16 → m ≡ n → k ≡ wordAt (wordsOf (take (16 + m % 5 * 4 - 16) t)) v
-    → unless (ltb k (m % 5)) ≡ formNumber (words (wordsOf (take (n % 5 * 4) t))) v
-unfolding formNumber isWord wordsOf
-words-number t v n m k l e h =
-    let w : 16 + m % 5 * 4 - 16 ≡ n % 5 * 4 = omega arith in
-    let c : length (take (n % 5 * 4) t) ≡ n % 5 * 4 = rw (length-take, l) (omega arith) in
-    let q : length (take (n % 5 * 4) t) / 4 ≡ n % 5 = omega arith in
-    rw (h, w, e, length-parts, q)
+-- a value is a word where its place is below their number
+pub words-number : (t v : List ℕ) (first count k n : ℕ) → k ≡ wordAt (wordsIn t first count) v → n ≡ count
+    → unless (ltb k n) ≡ formNumber (words (wordsIn t first count)) v
+unfolding formNumber isWord
+words-number t v first count k n h e = rw (h, e, word-lines)
 
 past-two : (k : ℕ) → (k ≡ 0 → ⊥) → (k ≡ 1 → ⊥) → (k ≡ 2 → ⊥) → 3 ≤ k
 past-two k a b c = omega arith
@@ -93,34 +109,39 @@ from-three k h d e f g = omega arith
 pub past-six : (k : ℕ) → (k ≡ 0 → ⊥) → (k ≡ 1 → ⊥) → (k ≡ 2 → ⊥) → (k ≡ 3 → ⊥) → (k ≡ 4 → ⊥) → (k ≡ 5 → ⊥) → (k ≡ 6 → ⊥) → 7 ≤ k
 past-six k a b c = from-three k (past-two k a b c)
 
-pub no-form : (kind least most : ℕ) (t v : List ℕ) → 7 ≤ kind → 0 ≡ formNumber (formOf kind least most t) v
+pub no-form : (t : List ℕ) (kind least most : ℕ) (v : List ℕ) → 7 ≤ kind → 0 ≡ formNumber (formOf t kind least most) v
 unfolding formNumber formOf
-no-form kind least most t v h = rw (List·getD-eq-default (nothing ∷ codes least most ∷ words (wordsOf (take (most % 5 * 4) t)) ∷ amount ∷ date ∷ moment ∷ narrative ∷ []) other h)
+no-form t kind least most v h =
+    rw (List·getD-eq-default (nothing ∷ codes least most ∷ words (wordsIn t least most) ∷ amount ∷ date ∷ moment ∷ narrative ∷ []) other h)
 
--- ---- the bytes of a slot
+-- ---- the lines
 
 module _ (t : List ℕ) (slot : ℕ) where
-  pub slot-none : length t / 32 ≤ slot → slotAt t slot ≡ record { fixed = []; form = other }
-  unfolding slotAt
-  slot-none h = rw (lt-leb (slot * 32 + 32) (length t) (omega arith))
+  pub slot-none : length t / 20 ≤ slot → slotAt t slot ≡ record { fixed = []; form = other }
+  unfolding slotAt textIn formIn reaches
+  slot-none h = rw (lt-leb (slot * 20 + 20) (length t) (omega arith))
 
   -- the code's part of them
-  module _ (h : slot < length t / 32) (s : List ℕ) (is : s ≡ take (slot * 32 + 32 - slot * 32) (drop (slot * 32) t)) where
-    bytes-are : s ≡ take 32 (drop (slot * 32) t)
-    bytes-are = let e : slot * 32 + 32 - slot * 32 ≡ 32 = omega arith in is ∙ ap (λ (k : ℕ). take k (drop (slot * 32) t)) e
+  module _ (h : slot < length t / 20) (s : List ℕ) (is : s ≡ take (slot * 20 + 20 - slot * 20) (drop (slot * 20) t)) where
+    line-is : s ≡ lineIn t slot
+    unfolding lineIn
+    line-is = let e : slot * 20 + 20 - slot * 20 ≡ 20 = omega arith in is ∙ ap (λ (k : ℕ). take k (drop (slot * 20) t)) e
 
-    pub bytes-length : length s ≡ 32
-    bytes-length = rw (bytes-are, length-take, length-drop) (omega arith)
+    reached : reaches t slot ≡ true
+    unfolding reaches
+    reached = le-leb (slot * 20 + 20) (length t) (omega arith)
 
-    pub slot-some : slotAt t slot ≡ record { fixed = take (getD s 3 0 % 13) (drop 4 s); form = formOf (getD s 0 0) (getD s 1 0) (getD s 2 0) (drop 16 s) }
-    unfolding slotAt
-    slot-some = rw (le-leb (slot * 32 + 32) (length t) (omega arith), ← bytes-are)
+    pub line-length : length s ≡ 20
+    unfolding lineIn
+    line-length = rw (line-is, length-take, length-drop) (omega arith)
 
-    pub fixed-part : take (4 + getD s 3 0 % 13 - 4) (drop 4 s) ≡ slotAt t slot .fixed
-    fixed-part = let e : 4 + getD s 3 0 % 13 - 4 ≡ getD s 3 0 % 13 = omega arith in rw (slot-some, e)
+    pub fixed-part : take (4 + getD s 3 0 % 17 - 4) (drop 4 s) ≡ slotAt t slot .fixed
+    unfolding slotAt textIn
+    fixed-part = let e : 4 + getD s 3 0 % 17 - 4 ≡ getD s 3 0 % 17 = omega arith in rw (reached, ← line-is, e)
 
-    pub form-is : formOf (getD s 0 0) (getD s 1 0) (getD s 2 0) (drop 16 s) ≡ slotAt t slot .form
-    form-is = rw slot-some
+    pub form-is : formOf t (getD s 0 0) (getD s 1 0) (getD s 2 0) ≡ slotAt t slot .form
+    unfolding slotAt formIn
+    form-is = rw (reached, ← line-is)
 
 -- ---- the number of a value
 
@@ -139,6 +160,6 @@ pub judged : (slot : Slot) (v f : List ℕ) (form : Form) (r : ℕ) → f ≡ sl
 judged slot v f form r e b g h =
     h ∙ rw (rest-of (length f) (length v) v refl, e, g) (after-fixed slot v (sym (ap (λ (l : List ℕ). begins l v) e) ∙ b))
 
-pub unjudged : (t : List ℕ) (i : ℕ) (v : List ℕ) → length t / 32 ≤ i → 0 ≡ valueNumber (slotAt t i) v
+pub unjudged : (t : List ℕ) (i : ℕ) (v : List ℕ) → length t / 20 ≤ i → 0 ≡ valueNumber (slotAt t i) v
 unfolding valueNumber formNumber begins
 unjudged t i v h = rw (slot-none t i h)

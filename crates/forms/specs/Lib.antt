@@ -3,3 +3,4 @@ pub mod Narrative
 pub mod Forms
 pub mod Slots
 pub mod Cases
+pub mod Samples

@@ -1,7 +1,9 @@
--- The bytes that a program holds of its slots, thirty-two to a slot: the form, its least and most width, the length of the
--- fixed text and the fixed text in sixteen bytes, and four words of four letters in the next sixteen.
-use Prim.Native.Nat.{ℕ, _+_, _*_, _/_, _%_}
-use mathlib.Core.Bool.{cond}
+-- The bytes that a program holds of its slots, twenty to a line: a form, its least and most width, the length of a text, and
+-- sixteen bytes that begin with the text. The first lines are the slots by number, and the text is a slot's fixed text. Behind
+-- them stand words, a line each: a slot that takes one of some words says by `least` the line of the first and by `most` how
+-- many they are.
+use Prim.Native.Nat.{ℕ, zero, suc, _+_, _*_, _/_, _%_}
+use mathlib.Core.Bool.{Bool, cond}
 use mathlib.Core.List.{List, [], _∷_}
 use lib.Dec.{leb}
 use lib.ListN.{length, take, drop, getD}
@@ -12,16 +14,34 @@ use Rattle.forms.specs.Forms.{Form, Slot, nothing, codes, words, amount,
 unfoldable pub wordsOf : List ℕ → List (List ℕ)
 wordsOf t = parts 4 (length t / 4) t
 
--- the forms are numbered as they stand here, from 0, and any other number is a form that takes any text; of words there are
--- `most`, up to four
-unfoldable pub formOf : ℕ → ℕ → ℕ → List ℕ → Form
-formOf kind least most t =
-    getD (nothing ∷ codes least most ∷ words (wordsOf (take (most % 5 * 4) t)) ∷ amount ∷ date ∷ moment ∷ narrative ∷ []) kind other
+-- ---- the lines
+
+-- the bytes reach a line where they hold all of it
+unfoldable pub reaches : List ℕ → ℕ → Bool
+reaches t line = leb (line * 20 + 20) (length t)
+
+unfoldable pub lineIn : List ℕ → ℕ → List ℕ
+lineIn t line = take 20 (drop (line * 20) t)
+
+-- the text of a line, of sixteen bytes at most; a line that the bytes do not reach has none
+unfoldable pub textIn : List ℕ → ℕ → List ℕ
+textIn t line = let s = lineIn t line in cond (reaches t line) (take (getD s 3 0 % 17) (drop 4 s)) []
+
+-- the words of some lines that stand one behind the other
+unfoldable pub wordsIn : List ℕ → ℕ → ℕ → List (List ℕ)
+wordsIn t first zero = []
+wordsIn t first (suc count) = textIn t first ∷ wordsIn t (suc first) count
+
+-- ---- the slots
+
+-- the forms are numbered as they stand here, from 0, and any other number is a form that takes any text
+unfoldable pub formOf : List ℕ → ℕ → ℕ → ℕ → Form
+formOf t kind least most =
+    getD (nothing ∷ codes least most ∷ words (wordsIn t least most) ∷ amount ∷ date ∷ moment ∷ narrative ∷ []) kind other
+
+unfoldable pub formIn : List ℕ → ℕ → Form
+formIn t line = let s = lineIn t line in cond (reaches t line) (formOf t (getD s 0 0) (getD s 1 0) (getD s 2 0)) other
 
 -- a slot that the bytes do not reach has no fixed text and takes any text
 unfoldable pub slotAt : List ℕ → ℕ → Slot
-slotAt t slot =
-    let s = take 32 (drop (slot * 32) t) in
-    cond (leb (slot * 32 + 32) (length t))
-    (record { fixed = take (getD s 3 0 % 13) (drop 4 s); form = formOf (getD s 0 0) (getD s 1 0) (getD s 2 0) (drop 16 s) })
-    (record { fixed = []; form = other })
+slotAt t slot = record { fixed = textIn t slot; form = formIn t slot }

@@ -14,7 +14,7 @@ ghost use Prim.Native.Nat.{_+_, _*_, _≤_};
 ghost use lib.Dec.{eqb};
 ghost use lib.ListN.{length, take, drop, getD};
 ghost use Rattle.forms.specs.Forms.{isCode, wordAt, isWord, unless, formNumber, valueNumber};
-ghost use Rattle.forms.specs.Slots.{wordsOf, formOf, slotAt};
+ghost use Rattle.forms.specs.Slots.{wordsOf, wordsIn, formOf, slotAt};
 
 // From a least to a most number of c.
 pub fn is_code(value: &[u8], least: usize, most: usize) -> bool
@@ -57,40 +57,53 @@ fn wide(byte: u8) -> usize
     byte as usize
 }
 
-// What follows the fixed text of a slot, by the slot's thirty-two bytes.
-fn judge_form(slot: &[u8], value: &[u8]) -> u64
-    requires { ⌜ length (now slot) ≡ 32 ⌝ }
-    ensures { λ r. ⌜ r ≡ formNumber (formOf (getD (now (slot .entry)) 0 0) (getD (now (slot .entry)) 1 0) (getD (now (slot .entry)) 2 0) (drop 16 (now (slot .entry)))) (now (value .entry)) ⌝ }
+// The fixed text of a slot, which is the text of its line; a word behind the slots is the text of its line too.
+pub fn fixed_text(slots: &[u8], slot: usize) -> &[u8]
+    ensures { λ r. ⌜ now r ≡ slotAt (now (slots .entry)) slot .fixed ⌝ }
 {
-    let kind = slot[0];
-    let least = wide(slot[1]);
-    let most = wide(slot[2]);
+    if slots.len() / 20 <= slot {
+        return &slots[..0];
+    }
+    let at = slot * 20;
+    let line = &slots[at..at + 20];
+    let len = (line[3] % 17) as usize;
+    &line[4..4 + len]
+}
+
+// The place of a value among the words of some lines; their number where it is none of them.
+pub fn word_in(slots: &[u8], first: u8, count: u8, value: &[u8]) -> usize
+    ensures { λ r. ⌜ r ≡ wordAt (wordsIn (now (slots .entry)) first count) (now (value .entry)) ⌝ }
+{
+    let from = wide(first);
+    let lines = wide(count);
+    let mut k = 0;
+    while k < lines {
+        if text::equals(value, fixed_text(slots, from + k)) {
+            return k;
+        }
+        k += 1;
+    }
+    k
+}
+
+// What follows the fixed text of a slot, by the slot's line.
+fn judge_form(slots: &[u8], line: &[u8], value: &[u8]) -> u64
+    requires { ⌜ length (now line) ≡ 20 ⌝ }
+    ensures { λ r. ⌜ r ≡ formNumber (formOf (now (slots .entry)) (getD (now (line .entry)) 0 0) (getD (now (line .entry)) 1 0) (getD (now (line .entry)) 2 0)) (now (value .entry)) ⌝ }
+{
+    let kind = line[0];
+    let least = line[1];
+    let most = line[2];
     match kind {
         0 => unless(value.len() == 0),
-        1 => unless(is_code(value, least, most)),
-        2 => {
-            let count = most % 5;
-            unless(word_at(&slot[16..16 + count * 4], value) < count)
-        }
+        1 => unless(is_code(value, wide(least), wide(most))),
+        2 => unless(word_in(slots, least, most, value) < wide(most)),
         3 => Amount::read(value).number(),
         4 => Date::read(value).number(),
         5 => Moment::read(value).number(),
         6 => unless(narrative::is_narrative(value)),
         _ => 0,
     }
-}
-
-// The fixed text of a slot.
-pub fn fixed_text(slots: &[u8], slot: usize) -> &[u8]
-    ensures { λ r. ⌜ now r ≡ slotAt (now (slots .entry)) slot .fixed ⌝ }
-{
-    if slots.len() / 32 <= slot {
-        return &slots[..0];
-    }
-    let at = slot * 32;
-    let bytes = &slots[at..at + 32];
-    let len = (bytes[3] % 13) as usize;
-    &bytes[4..4 + len]
 }
 
 // The number of all that follows a slot's qualifier.
@@ -101,10 +114,10 @@ pub fn judge(slots: &[u8], slot: usize, value: &[u8]) -> u64
     if !text::begins_with(value, fixed) {
         return 10;
     }
-    if slots.len() / 32 <= slot {
+    if slots.len() / 20 <= slot {
         return 0;
     }
-    let at = slot * 32;
+    let at = slot * 20;
     let from = fixed.len();
-    judge_form(&slots[at..at + 32], &value[from..])
+    judge_form(slots, &slots[at..at + 20], &value[from..])
 }

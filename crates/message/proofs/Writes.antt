@@ -14,6 +14,7 @@ use Rattle.text.specs.Copy.{fits, placed}
 use Rattle.text.proofs.Laws.{rest-of, length-placed}
 use Rattle.stretches.specs.Stretches.{stretchOf}
 use Rattle.forms.specs.Forms.{Slot}
+use Rattle.forms.proofs.Tables.{places as slotsIn}
 use Rattle.layout.specs.Rows.{rowsOf}
 use Rattle.trade.specs.declared.Trade.{Trade}
 use Rattle.sheets.specs.Sheets.{linesIn}
@@ -22,9 +23,9 @@ use Rattle.fill.specs.Runs.{overRun, flat}
 use Rattle.fill.specs.Filling.{joined, lent, isAny, frontOf, behindAt, filling}
 use Rattle.fill.proofs.Runs.{Put, Run, then, flat-append, measured, in-front, whole}
 use Rattle.fill.proofs.Walks.{filling-is}
-use Rattle.table.specs.Table.{table, slots, fixedOf}
+use Rattle.table.specs.Table.{table, lines, fixedOf}
 use Rattle.table.specs.Tree.{tree}
-use Rattle.table.proofs.Tables.{places as slotsIn, slots-are}
+use Rattle.table.proofs.Tables.{slots-are}
 use Rattle.table.proofs.Trees.{table-is}
 use Rattle.values.specs.Values.{values, valueOf, optional}
 use Rattle.values.specs.Places.{ends}
@@ -49,7 +50,7 @@ headerParts t = contents (t .password) ∷ bytes "\r\n" ∷ contents (t .sender)
 
 -- by what is lent: the bytes of the table, of its slots and of those that are optional, and the values of the record
 module _ (t : Trade) (rows fixed may text from to : List ℕ) (rows-are : rowsOf rows ≡ table)
-    (fixed-are : slotsIn fixed 0 32 ≡ slots) (long : length fixed ≡ 1024) (may-are : (s : ℕ) → isAny may s ≡ optional s)
+    (fixed-are : slotsIn fixed 0 42 ≡ lines) (long : length fixed ≡ 840) (may-are : (s : ℕ) → isAny may s ≡ optional s)
     (held : (s : ℕ) → stretchOf text from to s ≡ valueOf t s) where
   behind-is : (s : ℕ) → behindAt (lent fixed may text from to) s ≡ behindKey t s
   unfolding frontOf behindKey
@@ -77,7 +78,7 @@ module _ (t : Trade) (rows fixed may text from to : List ℕ) (rows-are : rowsOf
 -- put where all have room, they are the message
 pub put-whole : (t : Trade) (buf rows fixed may text from to : List ℕ) {r₁ r₂ : ℕ} {b₁ b₂ : List ℕ}
     → Run buf 0 (headerParts t) r₁ b₁ → Run b₁ r₁ (filling (lent fixed may text from to) rows) r₂ b₂ → length (messageOf t) ≤ length buf
-    → rowsOf rows ≡ table → slotsIn fixed 0 32 ≡ slots → length fixed ≡ 1024 → ((s : ℕ) → isAny may s ≡ optional s)
+    → rowsOf rows ≡ table → slotsIn fixed 0 42 ≡ lines → length fixed ≡ 840 → ((s : ℕ) → isAny may s ≡ optional s)
     → ((s : ℕ) → stretchOf text from to s ≡ valueOf t s) → Put buf 0 (messageOf t) r₂ b₂
 put-whole t buf rows fixed may text from to p q room rows-are fixed-are long may-are held =
     let ps = filling (lent fixed may text from to) rows in

@@ -11,19 +11,19 @@ use borrow.Author.Tests.{leb-true}
 use Rattle.text.specs.Bytes.{bytes}
 use Rattle.text.proofs.Laws.{and-left, and-right}
 use Rattle.forms.specs.Forms.{Slot, other}
-use Rattle.table.specs.Table.{slots, slotOf, slot, fixedOf}
+use Rattle.table.specs.Table.{slots, lines, slotOf, slot, fixedOf}
 
--- a fixed text has at most twelve bytes: one test over all slots, and the rule at each
+-- a fixed text has at most sixteen bytes: one test over all slots, and the rule at each
 abbrev short : List Slot → Bool
 short [] = true
-short (s ∷ ss) = leb (length (s .fixed)) 12 && short ss
+short (s ∷ ss) = leb (length (s .fixed)) 16 && short ss
 
-short-at : (ss : List Slot) (i : ℕ) → short ss ≡ true → length (getD ss i (slot "" other) .fixed) ≤ 12
+short-at : (ss : List Slot) (i : ℕ) → short ss ≡ true → length (getD ss i (slot "" other) .fixed) ≤ 16
 unfolding bytes
 short-at [] i e = omega arith
-short-at (s ∷ ss) zero e = leb-true (length (s .fixed)) 12 (and-left _ _ e)
-short-at (s ∷ ss) (suc i) e = short-at ss i (and-right (leb (length (s .fixed)) 12) _ e)
+short-at (s ∷ ss) zero e = leb-true (length (s .fixed)) 16 (and-left _ _ e)
+short-at (s ∷ ss) (suc i) e = short-at ss i (and-right (leb (length (s .fixed)) 16) _ e)
 
-pub fixed-short : (i : ℕ) → length (fixedOf i) ≤ 12
+pub fixed-short : (i : ℕ) → length (fixedOf i) ≤ 16
 unfolding slotOf slots bytes
-fixed-short i = short-at slots i refl
+fixed-short i = short-at lines i refl

@@ -1,10 +1,10 @@
 -- Document 01, "The slots, in order": the table of the MT515. First its lines under their blocks, then the value of each
--- slot. Slots with a value are numbered from 1 as document 01 numbers its fields; 30 and 31 are lines that are fixed; 28 and
--- 29 are the password and the sender.
+-- slot. Slots with a value are numbered from 1 as document 01 numbers its fields; 30 and 31 are lines that are fixed; 28, 29, 32
+-- and 33 are the lines of the header.
 use Prim.Native.Nat.{ℕ}
 use Prim.Native.String.{String}
 use mathlib.Core.Bool.{Bool, true, false}
-use mathlib.Core.List.{List, [], _∷_, map}
+use mathlib.Core.List.{List, [], _∷_, _++_, map}
 use lib.ListN.{getD}
 use Rattle.text.specs.Bytes.{bytes}
 use Rattle.forms.specs.Forms.{Form, Slot, nothing, codes, words, amount, date, moment, narrative, other, valueNumber}
@@ -73,37 +73,60 @@ reference = slot "//" (codes 1 16)
 abbrev pub none : Slot
 none = slot "" nothing
 
+-- the words of 23G, of BUSE and of PROC
+abbrev pub functionWords : List String
+functionWords = "NEWM" ∷ "CANC" ∷ []
+
+abbrev pub sideWords : List String
+sideWords = "BUYI" ∷ "SELL" ∷ []
+
+abbrev pub kindWords : List String
+kindWords = "INST" ∷ "CANC" ∷ "MDFC" ∷ "TDDK" ∷ []
+
 unfoldable pub slots : List Slot
 slots =
-    none
-    ∷ reference
-    ∷ slot "" (oneOf ("NEWM" ∷ "CANC" ∷ []))
-    ∷ slot "//" moment
-    ∷ reference
-    ∷ reference
-    ∷ reference
-    ∷ slot "//" moment
-    ∷ slot "//" date
-    ∷ slot "//PRCT/" amount
-    ∷ slot "//" (oneOf ("BUYI" ∷ "SELL" ∷ []))
-    ∷ slot "/GSCC/" (oneOf ("INST" ∷ "CANC" ∷ "MDFC" ∷ "TDDK" ∷ []))
-    ∷ slot "/GSCC/PART" (codes 4 4)
-    ∷ reference
-    ∷ slot "//GSCC/TDID" (codes 1 20)
-    ∷ slot "/GSCC/PART" (codes 4 4)
-    ∷ reference
-    ∷ slot "//GSCC/TDID" (codes 1 20)
-    ∷ slot "//FAMT/" amount
-    ∷ slot "/US/" (codes 9 9)
-    ∷ slot "/GSCC/" (codes 1 9)
-    ∷ slot "//GSCC" narrative
-    ∷ none ∷ none ∷ none ∷ none ∷ none ∷ none ∷ none ∷ none
-    ∷ slot "/GSCC/CASH" nothing
-    ∷ slot "//APMT" nothing
+    none  -- 0
+    ∷ reference  -- 1
+    ∷ slot "" (oneOf functionWords)  -- 2
+    ∷ slot "//" moment  -- 3
+    ∷ reference  -- 4
+    ∷ reference  -- 5
+    ∷ reference  -- 6
+    ∷ slot "//" moment  -- 7
+    ∷ slot "//" date  -- 8
+    ∷ slot "//PRCT/" amount  -- 9
+    ∷ slot "//" (oneOf sideWords)  -- 10
+    ∷ slot "/GSCC/" (oneOf kindWords)  -- 11
+    ∷ slot "/GSCC/PART" (codes 4 4)  -- 12
+    ∷ reference  -- 13
+    ∷ slot "//GSCC/TDID" (codes 1 20)  -- 14
+    ∷ slot "/GSCC/PART" (codes 4 4)  -- 15
+    ∷ reference  -- 16
+    ∷ slot "//GSCC/TDID" (codes 1 20)  -- 17
+    ∷ slot "//FAMT/" amount  -- 18
+    ∷ slot "/US/" (codes 9 9)  -- 19
+    ∷ slot "/GSCC/" (codes 1 9)  -- 20
+    ∷ slot "//GSCC" narrative  -- 21
+    ∷ none ∷ none ∷ none  -- 22 to 24
+    ∷ none ∷ none ∷ none  -- 25 to 27
+    ∷ slot "" (codes 0 12)  -- 28, the password
+    ∷ slot "" (codes 1 8)  -- 29, the sender
+    ∷ slot "/GSCC/CASH" nothing  -- 30
+    ∷ slot "//APMT" nothing  -- 31
+    ∷ slot "515/000/GSCC" nothing  -- 32
+    ∷ slot "MBSCTRRS" nothing  -- 33
     ∷ []
 
+-- the slots of the header's lines
+unfoldable pub header : List ℕ
+header = 28 ∷ 29 ∷ 32 ∷ 33 ∷ []
+
+-- the lines of a program's bytes: behind the slots, in lines that no row names, stand the words
+abbrev pub lines : List Slot
+lines = slots ++ map (λ w. slot w nothing) (functionWords ++ (sideWords ++ kindWords))
+
 unfoldable pub slotOf : ℕ → Slot
-slotOf i = getD slots i (slot "" other)
+slotOf i = getD lines i (slot "" other)
 
 abbrev pub fixedOf : ℕ → List ℕ
 fixedOf i = slotOf i .fixed

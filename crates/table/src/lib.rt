@@ -47,39 +47,53 @@ pub const TABLE: [u8; 624] = *b"\x03\x00\x09:16R:GENL    \
     \x05\x00\x0c:16S:CONFDET \
     \x05\x00\x01-            ";
 
-// Thirty-two bytes a slot: its form, least and most width, the length of the fixed text, the fixed text, and its words.
-pub const SLOTS: [u8; 1024] = *b"\x00\x00\x00\x00            ................\
-    \x01\x01\x10\x02//          ................\
-    \x02\x00\x02\x00            NEWMCANC........\
-    \x05\x00\x00\x02//          ................\
-    \x01\x01\x10\x02//          ................\
-    \x01\x01\x10\x02//          ................\
-    \x01\x01\x10\x02//          ................\
-    \x05\x00\x00\x02//          ................\
-    \x04\x00\x00\x02//          ................\
-    \x03\x00\x00\x07//PRCT/     ................\
-    \x02\x00\x02\x02//          BUYISELL........\
-    \x02\x00\x04\x06/GSCC/      INSTCANCMDFCTDDK\
-    \x01\x04\x04\x0a/GSCC/PART  ................\
-    \x01\x01\x10\x02//          ................\
-    \x01\x01\x14\x0b//GSCC/TDID ................\
-    \x01\x04\x04\x0a/GSCC/PART  ................\
-    \x01\x01\x10\x02//          ................\
-    \x01\x01\x14\x0b//GSCC/TDID ................\
-    \x03\x00\x00\x07//FAMT/     ................\
-    \x01\x09\x09\x04/US/        ................\
-    \x01\x01\x09\x06/GSCC/      ................\
-    \x06\x00\x00\x06//GSCC      ................\
-    \x00\x00\x00\x00            ................\
-    \x00\x00\x00\x00            ................\
-    \x00\x00\x00\x00            ................\
-    \x00\x00\x00\x00            ................\
-    \x00\x00\x00\x00            ................\
-    \x00\x00\x00\x00            ................\
-    \x00\x00\x00\x00            ................\
-    \x00\x00\x00\x00            ................\
-    \x00\x00\x00\x0a/GSCC/CASH  ................\
-    \x00\x00\x00\x06//APMT      ................";
+// Twenty bytes a line: its form, least and most width, the length of its text, the text. The slots stand first, by number; from
+// the line 34 on the words that three of them take.
+pub const SLOTS: [u8; 840] = *b"\x00\x00\x00\x00                \
+    \x01\x01\x10\x02//              \
+    \x02\x22\x02\x00                \
+    \x05\x00\x00\x02//              \
+    \x01\x01\x10\x02//              \
+    \x01\x01\x10\x02//              \
+    \x01\x01\x10\x02//              \
+    \x05\x00\x00\x02//              \
+    \x04\x00\x00\x02//              \
+    \x03\x00\x00\x07//PRCT/         \
+    \x02\x24\x02\x02//              \
+    \x02\x26\x04\x06/GSCC/          \
+    \x01\x04\x04\x0a/GSCC/PART      \
+    \x01\x01\x10\x02//              \
+    \x01\x01\x14\x0b//GSCC/TDID     \
+    \x01\x04\x04\x0a/GSCC/PART      \
+    \x01\x01\x10\x02//              \
+    \x01\x01\x14\x0b//GSCC/TDID     \
+    \x03\x00\x00\x07//FAMT/         \
+    \x01\x09\x09\x04/US/            \
+    \x01\x01\x09\x06/GSCC/          \
+    \x06\x00\x00\x06//GSCC          \
+    \x00\x00\x00\x00                \
+    \x00\x00\x00\x00                \
+    \x00\x00\x00\x00                \
+    \x00\x00\x00\x00                \
+    \x00\x00\x00\x00                \
+    \x00\x00\x00\x00                \
+    \x01\x00\x0c\x00                \
+    \x01\x01\x08\x00                \
+    \x00\x00\x00\x0a/GSCC/CASH      \
+    \x00\x00\x00\x06//APMT          \
+    \x00\x00\x00\x0c515/000/GSCC    \
+    \x00\x00\x00\x08MBSCTRRS        \
+    \x00\x00\x00\x04NEWM            \
+    \x00\x00\x00\x04CANC            \
+    \x00\x00\x00\x04BUYI            \
+    \x00\x00\x00\x04SELL            \
+    \x00\x00\x00\x04INST            \
+    \x00\x00\x00\x04CANC            \
+    \x00\x00\x00\x04MDFC            \
+    \x00\x00\x00\x04TDDK            ";
+
+// The slots of the header's lines.
+pub const HEADER: [u8; 4] = [28, 29, 32, 33];
 
 // The walk over the lines behind the header of an MT515, with the places that are kept already.
 pub fn walk(

@@ -8,14 +8,13 @@ use mathlib.Core.List.{List, [], _∷_}
 use mathlib.Core.Logic.{_⊎_, inl, inr}
 use native.Mathlib.Nat.{add-zero, zero-add, add-suc, suc-add, not-suc-le-zero, le-of-suc-le-suc}
 use native.Mathlib.Omega.{arith}
-use lib.Dec.{leb, ltb, eqb}
+use lib.Dec.{leb, eqb}
 use lib.ListN.{length, getD}
-use borrow.Author.Tests.{leb-true, le-leb, ltb-true, lt-ltb, eqb-true, eqb-false}
-use Rattle.text.specs.Bytes.{same}
+use borrow.Author.Tests.{le-leb, ltb-true, eqb-true, eqb-false}
 use Rattle.text.specs.Classes.{allIn}
 use Rattle.text.specs.Texts.{contents, textOf, inForm as textForm}
 use Rattle.text.specs.declared.Text.{Text}
-use Rattle.text.proofs.Laws.{and-left, and-right, and-both, same-eq, contents-of, in-form-of, in-form-facts, length-contents}
+use Rattle.text.proofs.Laws.{and-left, and-right, and-both, contents-of, in-form-of, in-form-facts, length-contents}
 use Rattle.digits.specs.Numerals.{fixedOf}
 use Rattle.amount.specs.Amounts.{isAmount, tidy, amountRead, amountNumber, amountText, valueOf as meaning, inForm as amountForm}
 use Rattle.amount.specs.declared.AmountRead.{AmountRead}
@@ -26,6 +25,7 @@ use Rattle.calendar.specs.declared.DateRead.{DateRead}
 use Rattle.calendar.specs.declared.MomentRead.{MomentRead}
 use Rattle.calendar.proofs.Laws.{date-back, moment-back, moment-round}
 use Rattle.forms.specs.Forms.{isCode, wordAt, isWord}
+use Rattle.forms.proofs.Laws.{code-most, word-at}
 use Rattle.trade.specs.Records.{amountOr0, dateOr0, momentOr0}
 use Rattle.values.specs.Writable.{prepForm, hold}
 
@@ -63,10 +63,6 @@ hold-all (b ∷ bs) h = and-both (h 0 (omega arith)) (hold-all bs (λ i l. h (su
 
 -- ---- texts
 
-pub code-most : (least most : ℕ) (v : List ℕ) → isCode least most v ≡ true → length v ≤ most
-unfolding isCode
-code-most least most v e = leb-true (length v) most (and-left _ _ (and-right (leb least (length v)) _ e))
-
 -- a value of some c is held as a text in form, and that text is written as the value
 pub code-text : (least most : ℕ) (v : List ℕ) → most ≤ 20 → isCode least most v ≡ true → (textForm least most (textOf v) ≡ true) × (contents (textOf v) ≡ v)
 unfolding isCode
@@ -95,17 +91,6 @@ unfolding isCode allIn
 no-code most = rw (le-leb 0 most (omega arith))
 
 -- ---- code words
-
--- a word stands at its place
-pub word-at : (ws : List (List ℕ)) (v : List ℕ) → isWord ws v ≡ true → getD ws (wordAt ws v) [] ≡ v
-unfolding isWord wordAt
-word-at [] v e = let z : ⊥ = omega (arith, ltb-true 0 0 e) in absurd z
-word-at (w ∷ ws) v e = go (λ h. word-at ws v h) (same w v) refl e
-  where
-    go : (ltb (wordAt ws v) (length ws) ≡ true → getD ws (wordAt ws v) [] ≡ v) → (b : Bool) → same w v ≡ b
-        → ltb (cond b 0 (suc (wordAt ws v))) (suc (length ws)) ≡ true → getD (w ∷ ws) (cond b 0 (suc (wordAt ws v))) [] ≡ v
-    go ih true h l = same-eq w v h
-    go ih false h l = ih (lt-ltb (wordAt ws v) (length ws) (le-of-suc-le-suc (ltb-true (suc (wordAt ws v)) (suc (length ws)) l)))
 
 -- what a word stands for is written as the word, where each of its list is
 pub word-back : {T : Type 0} (ws : List (List ℕ)) (all : List T) (first : T) (spell : T → List ℕ)

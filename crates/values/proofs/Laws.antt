@@ -23,6 +23,8 @@ use Rattle.calendar.specs.Dates.{dateNumber, dateText, momentRead, momentNumber
 use Rattle.calendar.proofs.Laws.{date-round, moment-round}
 use Rattle.forms.specs.Forms.{isCode, wordAt, isWord, unless, formNumber, valueNumber}
 use Rattle.forms.specs.Narrative.{isNarrative}
+use Rattle.forms.proofs.Laws.{unless-good}
+use Rattle.forms.proofs.Narratives.{nothing}
 use Rattle.trade.specs.Records.{kinds, sides, kindIn, sideIn, momentOr0, partyOf, tradeOf}
 use Rattle.trade.specs.declared.Kind.{Kind}
 use Rattle.trade.specs.declared.Side.{Side}
@@ -32,18 +34,13 @@ use Rattle.table.specs.Table.{slots, slotOf, fixedOf, numberOf}
 use Rattle.values.specs.Values.{kindWord, sideWord, narrative, values, valueOf, optional, tidied}
 use Rattle.values.specs.Writable.{prepForm, periodForm, reasonForm, tests, inForm}
 use Rattle.values.proofs.Fields.{Each, _⨾_, each-at, hold-at, hold-all, code-text, text-code, code-any, code-some, no-code, word-back, amount-held, date-held, moment-held, prep-back, prep-number, prep-held}
-use Rattle.values.proofs.Narratives.{nothing, narrative-short, told-parts, told-back, told-form}
+use Rattle.values.proofs.Narratives.{narrative-short, told-parts, told-back, told-form}
 
 -- ---- the number of a line that is a slot's fixed text and a value
 
 pub number-form : (slot : ℕ) (v : List ℕ) → numberOf slot (fixedOf slot ++ v) ≡ formNumber (slotOf slot .form) v
 unfolding numberOf valueNumber
 number-form slot v = rw (begins-append (fixedOf slot) v, drop-at (fixedOf slot) v (length (fixedOf slot)) refl)
-
-unless-good : (b : Bool) → unless b ≡ 0 → b ≡ true
-unfolding unless
-unless-good true e = refl
-unless-good false e = let z : ⊥ = omega arith in absurd z
 
 good-unless : (b : Bool) → b ≡ true → unless b ≡ 0
 unfolding unless

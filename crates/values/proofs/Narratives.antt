@@ -1,30 +1,32 @@
 -- The narrative and its parts tell each other: what is written of a service, a period and a reason is a narrative that means
 -- them, and what a narrative means is written as that narrative.
 -- Assumes nothing.
-use Prim.Native.Nat.{ℕ, _+_, _-_, _%_, _≤_, _<_}
+use Prim.Native.Nat.{ℕ, _+_, _-_, _%_, _≤_}
 use mathlib.Core.Path.{_≡_, refl, sym, ap, _∙_}
-use mathlib.Core.Bool.{Bool, true, false, _||_, not, cond, or-true}
+use mathlib.Core.Bool.{Bool, true, false, _||_, cond, or-true}
 use mathlib.Core.List.{List, [], _∷_, _++_}
 use native.Mathlib.Omega.{arith}
-use lib.Dec.{leb, ltb, eqb}
-use lib.ListN.{length, take, drop, getD, length-append, take-append-drop, List·getD-eq-default}
-use lib.Seq.{take-at, drop-at, drop-drop, drop-cons}
-use borrow.Author.Tests.{leb-true, le-leb, ltb-true, ltb-false, lt-ltb, eqb-true}
+use lib.Dec.{leb}
+use lib.ListN.{length, drop, getD, length-append}
+use lib.Seq.{take-at, drop-at, drop-drop}
+use borrow.Author.Tests.{leb-true, le-leb, ltb-true, ltb-false, lt-ltb}
 use Rattle.text.specs.Bytes.{bytes, begins, same}
 use Rattle.text.specs.Classes.{allIn, inClass, isDigit, isBetween}
 use Rattle.text.specs.Texts.{contents, textOf, inForm as textForm}
 use Rattle.text.specs.declared.Text.{Text}
-use Rattle.text.proofs.Laws.{and-left, and-right, and-both, begins-is, begins-append, text-back, in-form-facts, length-contents}
+use Rattle.text.proofs.Laws.{and-left, and-right, and-both, begins-append, text-back, in-form-facts, length-contents}
 use Rattle.digits.specs.Numerals.{digits}
 use Rattle.forms.specs.Forms.{isCode, wordAt, isWord}
 use Rattle.forms.specs.Narrative.{services, serviceIn, hasPeriod, periodIn, behindPeriod, hasReason, reasonIn, goodPeriod, goodReason, isNarrative}
+use Rattle.forms.proofs.Laws.{code-most}
+use Rattle.forms.proofs.Narratives.{nothing, periodPart, reasonPart, worded, period-digit, reason-code, narrative-is}
 use Rattle.trade.specs.Narrative.{serviceOf, periodOf}
 use Rattle.trade.specs.declared.Service.{Service}
 use Rattle.trade.specs.declared.Period.{Period}
 use Rattle.kinds.specs.Kinds.{present}
 use Rattle.values.specs.Values.{serviceWord, periodText, reasonText, narrative}
 use Rattle.values.specs.Writable.{periodForm, reasonForm}
-use Rattle.values.proofs.Fields.{_⨾_, word-back, code-text, text-code, code-most}
+use Rattle.values.proofs.Fields.{_⨾_, word-back, code-text, text-code}
 
 pub service-four : (service : Service) → length (serviceWord service) ≡ 4
 unfolding serviceWord bytes
@@ -50,10 +52,6 @@ record Reason (reason : Text) : Type 0 where
   told-is : reasonText reason ≡ cond (present reason) (bytes "/DKRS" ++ contents reason) []
   four : present reason ≡ true → isCode 4 4 (contents reason) ≡ true
   none : present reason ≡ false → contents reason ≡ []
-
-pub nothing : (s : List ℕ) → length s ≡ 0 → s ≡ []
-nothing [] e = refl
-nothing (b ∷ s) e = let z : ⊥ = omega arith in absurd z
 
 reason-formed : (reason : Text) → reasonForm reason ≡ true → Reason reason
 unfolding reasonForm reasonText
@@ -142,84 +140,52 @@ module _ (service : Service) (period : Period) (reason : Text) (goodp : periodFo
 -- ---- what a narrative means is written as the narrative
 
 module _ (v : List ℕ) (is : isNarrative v ≡ true) where
-  worded : isWord services (serviceIn v) ≡ true
-  unfolding isNarrative
-  worded = and-left _ _ (and-right (begins (bytes "/TDSV") v) _ is)
+  word-told : serviceIn v ≡ serviceWord (serviceOf v)
+  unfolding serviceOf serviceWord bytes
+  word-told = sym (word-back services (Service.Sbod ∷ Service.Tftd ∷ Service.Stip ∷ []) Service.Sbod serviceWord (refl ⨾ refl ⨾ refl ⨾ tt) (serviceIn v) (worded v is))
 
-  good-period : goodPeriod v ≡ true
-  unfolding isNarrative
-  good-period = and-left _ _ (and-right (isWord services (serviceIn v)) _ (and-right (begins (bytes "/TDSV") v) _ is))
-
-  good-reason : goodReason v ≡ true
-  unfolding isNarrative
-  good-reason = and-right (goodPeriod v) _ (and-right (isWord services (serviceIn v)) _ (and-right (begins (bytes "/TDSV") v) _ is))
-
-  front : v ≡ bytes "/TDSV" ++ (serviceWord (serviceOf v) ++ drop 9 v)
-  unfolding isNarrative serviceOf serviceIn serviceWord bytes
-  front =
-      let a : v ≡ bytes "/TDSV" ++ drop 5 v = begins-is (bytes "/TDSV") v (and-left _ _ is) in
-      let w : serviceWord (serviceOf v) ≡ take 4 (drop 5 v) =
-      word-back services (Service.Sbod ∷ Service.Tftd ∷ Service.Stip ∷ []) Service.Sbod serviceWord (refl ⨾ refl ⨾ refl ⨾ tt) (serviceIn v) worded
-      in let b : drop 5 v ≡ take 4 (drop 5 v) ++ drop 9 v = sym (take-append-drop 4 (drop 5 v)) ∙ rw (drop-drop 4 5 v)
-      in a ∙ ap (λ (l : List ℕ). bytes "/TDSV" ++ l) (b ∙ ap (λ (l : List ℕ). l ++ drop 9 v) (sym w))
-
-  -- the byte of a period is there, since the byte 0 is no digit
-  within : 48 ≤ getD (drop 9 v) 5 0 → 5 < length (drop 9 v)
-  within low = go (ltb 5 (length (drop 9 v))) refl
+  period-told : (periodPart v ≡ periodText (periodOf v)) × (periodForm (periodOf v) ≡ true)
+  unfolding periodOf periodText periodForm bytes digits isDigit isBetween
+  period-told = go (hasPeriod v) refl
     where
-      go : (t : Bool) → ltb 5 (length (drop 9 v)) ≡ t → 5 < length (drop 9 v)
-      go true e = ltb-true _ _ e
-      go false e = let z = List·getD-eq-default (drop 9 v) 0 (ltb-false _ _ e) in let w : ⊥ = omega arith in absurd w
-
-  some-period : begins (bytes "/GUPP") (drop 9 v) ≡ true → isDigit (getD (drop 9 v) 5 0) ≡ true
-      → (drop 9 v ≡ (bytes "/GUPP" ++ digits 1 (getD (drop 9 v) 5 0 - 48)) ++ drop 15 v) × (leb (getD (drop 9 v) 5 0 - 48) 9 ≡ true)
-  unfolding bytes digits isDigit isBetween
-  some-period h d =
-      let low : 48 ≤ getD (drop 9 v) 5 0 = leb-true _ _ (and-left _ _ d) in
-      let high : getD (drop 9 v) 5 0 ≤ 57 = leb-true _ _ (and-right (leb 48 (getD (drop 9 v) 5 0)) _ d) in
-      let digit : 48 + (getD (drop 9 v) 5 0 - 48) % 10 ≡ getD (drop 9 v) 5 0 = omega arith in
-      let a : drop 9 v ≡ bytes "/GUPP" ++ drop 5 (drop 9 v) = begins-is (bytes "/GUPP") (drop 9 v) h in
-      let b : drop 5 (drop 9 v) ≡ getD (drop 9 v) 5 0 ∷ drop 15 v = drop-cons (drop 9 v) 5 0 (within low) ∙ rw (drop-drop 6 9 v) in
-      (a ∙ ap (λ (l : List ℕ). bytes "/GUPP" ++ l) b ∙ rw digit, le-leb (getD (drop 9 v) 5 0 - 48) 9 (omega arith))
-
-  period-told : (drop 9 v ≡ periodText (periodOf v) ++ behindPeriod v) × (periodForm (periodOf v) ≡ true)
-  unfolding goodPeriod hasPeriod periodIn periodOf behindPeriod periodText periodForm
-  period-told = go (hasPeriod v) refl good-period
-    where
-      go : (b : Bool) → hasPeriod v ≡ b → (not b || isDigit (periodIn v)) ≡ true
-          → (drop 9 v ≡ periodText (cond b (Period.Days (periodIn v - 48)) Period.Absent) ++ cond b (drop 15 v) (drop 9 v))
+      go : (b : Bool) → hasPeriod v ≡ b
+          → (cond b (bytes "/GUPP" ++ periodIn v ∷ []) [] ≡ periodText (cond b (Period.Days (periodIn v - 48)) Period.Absent))
           × (periodForm (cond b (Period.Days (periodIn v - 48)) Period.Absent) ≡ true)
-      go true h d = some-period h d
-      go false h d = (refl, refl)
+      go true h =
+          let d = period-digit v is h in
+          let low : 48 ≤ periodIn v = leb-true _ _ (and-left _ _ d) in
+          let high : periodIn v ≤ 57 = leb-true _ _ (and-right (leb 48 (periodIn v)) _ d) in
+          let digit : 48 + (periodIn v - 48) % 10 ≡ periodIn v = omega arith in
+          (rw digit, le-leb (periodIn v - 48) 9 (omega arith))
+      go false h = (refl, refl)
 
-  some-reason : begins (bytes "/DKRS") (behindPeriod v) ≡ true → isCode 4 4 (drop 5 (behindPeriod v)) ≡ true
-      → (behindPeriod v ≡ reasonText (textOf (drop 5 (behindPeriod v)))) × (reasonForm (textOf (drop 5 (behindPeriod v))) ≡ true)
-  unfolding reasonText reasonForm bytes
-  some-reason h c =
-      let t = code-text 4 4 (drop 5 (behindPeriod v)) (omega arith) c in
+  some-reason : hasReason v ≡ true → (bytes "/DKRS" ++ reasonIn v ≡ reasonText (textOf (reasonIn v))) × (reasonForm (textOf (reasonIn v)) ≡ true)
+  unfolding reasonText reasonForm
+  some-reason h =
+      let t = code-text 4 4 (reasonIn v) (omega arith) (reason-code v is h) in
       let f = in-form-facts 4 4 _ (t .0) in
-      let p : present (textOf (drop 5 (behindPeriod v))) ≡ true = lt-ltb 0 (textOf (drop 5 (behindPeriod v)) .len) (omega (arith, f .2)) in
-      let a : behindPeriod v ≡ bytes "/DKRS" ++ drop 5 (behindPeriod v) = begins-is (bytes "/DKRS") (behindPeriod v) h in
-      (a ∙ rw (p, t .1), rw (t .0) (or-true (textForm 0 0 (textOf (drop 5 (behindPeriod v))))))
+      let p : present (textOf (reasonIn v)) ≡ true = lt-ltb 0 (textOf (reasonIn v) .len) (omega (arith, f .2)) in
+      (rw (p, t .1), rw (t .0) (or-true (textForm 0 0 (textOf (reasonIn v)))))
 
-  no-reason : length (behindPeriod v) ≡ 0 → (behindPeriod v ≡ reasonText (textOf [])) × (reasonForm (textOf []) ≡ true)
+  none-in : hasReason v ≡ false → reasonIn v ≡ []
+  unfolding reasonIn
+  none-in h = rw h
+
+  no-reason : ([] ≡ reasonText (textOf [])) × (reasonForm (textOf []) ≡ true)
   unfolding reasonText reasonForm textOf textForm contents allIn inClass
-  no-reason e = (nothing (behindPeriod v) e, refl)
+  no-reason = (refl, refl)
 
-  reason-told : (behindPeriod v ≡ reasonText (textOf (reasonIn v))) × (reasonForm (textOf (reasonIn v)) ≡ true)
-  unfolding goodReason hasReason reasonIn
-  reason-told = go (hasReason v) refl good-reason
+  reason-told : (reasonPart v ≡ reasonText (textOf (reasonIn v))) × (reasonForm (textOf (reasonIn v)) ≡ true)
+  reason-told = go (hasReason v) refl
     where
       go : (b : Bool) → hasReason v ≡ b
-          → cond b (isCode 4 4 (cond b (drop 5 (behindPeriod v)) [])) (eqb (length (behindPeriod v)) 0) ≡ true
-          → (behindPeriod v ≡ reasonText (textOf (cond b (drop 5 (behindPeriod v)) []))) × (reasonForm (textOf (cond b (drop 5 (behindPeriod v)) [])) ≡ true)
-      go true h c = some-reason h c
-      go false h c = no-reason (eqb-true _ _ c)
+          → (cond b (bytes "/DKRS" ++ reasonIn v) [] ≡ reasonText (textOf (reasonIn v))) × (reasonForm (textOf (reasonIn v)) ≡ true)
+      go true h = some-reason h
+      go false h = rw (none-in h) no-reason
 
   pub told-back : narrative (serviceOf v) (periodOf v) (textOf (reasonIn v)) ≡ v
   unfolding narrative
-  told-back =
-      sym (front ∙ ap (λ (l : List ℕ). bytes "/TDSV" ++ (serviceWord (serviceOf v) ++ l)) (period-told .0 ∙ ap (λ (l : List ℕ). periodText (periodOf v) ++ l) (reason-told .0)))
+  told-back = sym (narrative-is v is ∙ rw (word-told, period-told .0, reason-told .0))
 
   pub told-form : (periodForm (periodOf v) ≡ true) × (reasonForm (textOf (reasonIn v)) ≡ true)
   told-form = (period-told .1, reason-told .1)

@@ -47,7 +47,7 @@ fn keep(
     value: usize,
     end: usize,
 )
-    requires { ⌜ value + 12 < 2 ^ 64 ⌝ }
+    requires { ⌜ value + 16 < 2 ^ 64 ⌝ }
     ensures { λ _. ⌜ (now (starts .exit) ≡ cond (eqb slot 0) (now (starts .entry)) (set (now (starts .entry)) slot (value + length (slotAt (now (slots .entry)) slot .fixed)))) × (now (ends .exit) ≡ cond (eqb slot 0) (now (ends .entry)) (set (now (ends .entry)) slot end)) ⌝ }
 {
     if slot == 0 {

@@ -1,7 +1,5 @@
 -- `forms::fixed_text` meets its contract. Assumes nothing.
 use Rattle.forms.specs.Forms.{Slot}
-use mathlib.Core.List.{List}
-use Prim.Native.Nat.{ℕ}
 use mathlib.Core.Path.{sym, ap, refl}
 use Rattle.forms.proofs.Turns.{slot-none, fixed-part}
 use borrow.Author.Needs.{needs}
@@ -17,17 +15,17 @@ returns c = sym (ap (λ (s : Slot). s .fixed) (slot-none _ _ (c .before .if1 .ta
 mul-at : tie.Need-mul-at
 mul-at c = search needs
 
-add-bytes : tie.Need-add-bytes
-add-bytes c = search needs
+add-line : tie.Need-add-line
+add-line c = search needs
 
-sub-bytes : tie.Need-sub-bytes
-sub-bytes c = search needs
+sub-line : tie.Need-sub-line
+sub-line c = search needs
 
-part-bytes-start : tie.Need-part-bytes-start
-part-bytes-start c = search needs
+part-line-start : tie.Need-part-line-start
+part-line-start c = search needs
 
-part-bytes-end : tie.Need-part-bytes-end
-part-bytes-end c = search needs
+part-line-end : tie.Need-part-line-end
+part-line-end c = search needs
 
 shared-slice-read-len : tie.Need-shared-slice-read-len
 shared-slice-read-len c = search needs
@@ -59,10 +57,10 @@ fixed-text-spec =
     slice-aggregate-result
     returns
     mul-at
-    add-bytes
-    sub-bytes
-    part-bytes-start
-    part-bytes-end
+    add-line
+    sub-line
+    part-line-start
+    part-line-end
     shared-slice-read-len
     cast-len
     add-result

@@ -1,9 +1,5 @@
 -- `forms::judge_form` meets its contract: each arm is a form by its number. Assumes nothing.
-use denote.Ref.{now}
-use mathlib.Core.Path.{_≡_, ap, sym, _∙_}
-use lib.Dec.{ltb}
-use lib.ListN.{length, drop, length-drop}
-use native.Mathlib.Omega.{arith}
+use mathlib.Core.Path.{ap, _∙_}
 use Rattle.amount.specs.Amounts.{amountNumber}
 use Rattle.calendar.specs.Dates.{dateNumber, momentNumber}
 use Rattle.forms.specs.Forms.{unless, formNumber}
@@ -22,20 +18,20 @@ use Rattle.calendar.proofs.MomentRead.number.Reads as MomentRead-number-reads
 shared-slice-read-kind : tie.Need-shared-slice-read-kind
 shared-slice-read-kind c = search needs
 
-shared-slice-read-wide : tie.Need-shared-slice-read-wide
-shared-slice-read-wide c = search needs
+shared-slice-read-least : tie.Need-shared-slice-read-least
+shared-slice-read-least c = search needs
+
+shared-slice-read-most : tie.Need-shared-slice-read-most
+shared-slice-read-most c = search needs
+
+unless-requires : tie.Need-unless-requires
+unless-requires c κs = search needs
 
 wide-requires : tie.Need-wide-requires
 wide-requires c κs = search needs
 
-shared-slice-read-wide-2 : tie.Need-shared-slice-read-wide-2
-shared-slice-read-wide-2 c = search needs
-
 wide-requires-2 : tie.Need-wide-requires-2
 wide-requires-2 c κs = search needs
-
-unless-requires : tie.Need-unless-requires
-unless-requires c κs = search needs
 
 is-code-requires : tie.Need-is-code-requires
 is-code-requires c κs = search needs
@@ -43,23 +39,11 @@ is-code-requires c κs = search needs
 unless-requires-2 : tie.Need-unless-requires-2
 unless-requires-2 c κs = search needs
 
-mul-word-at : tie.Need-mul-word-at
-mul-word-at c = search needs
+word-in-requires : tie.Need-word-in-requires
+word-in-requires c κs = search needs
 
-add-word-at : tie.Need-add-word-at
-add-word-at c = search needs
-
-sub-word-at : tie.Need-sub-word-at
-sub-word-at c = search needs
-
-part-word-at-start : tie.Need-part-word-at-start
-part-word-at-start c = search needs
-
-part-word-at-end : tie.Need-part-word-at-end
-part-word-at-end c = search needs
-
-word-at-requires : tie.Need-word-at-requires
-word-at-requires c κs = search needs
+wide-requires-3 : tie.Need-wide-requires-3
+wide-requires-3 c κs = search needs
 
 unless-requires-3 : tie.Need-unless-requires-3
 unless-requires-3 c κs = search needs
@@ -95,17 +79,14 @@ returns c = rw (c .before .match .keys1) (c .unless .ensures)
 returns-2 : tie.Need-returns-2
 unfolding formOf formNumber
 returns-2 c =
-    let w = c .before .before .before in
-    rw (c .before .before .match .keys2, ← w .wide2 .ensures, ← w .before .before .wide .ensures) (c .unless2 .ensures ∙ ap unless (c .before .is-code .ensures))
+    let w = c .before .before in
+    rw (w .before .before .match .keys2, ← w .wide2 .ensures, ← w .before .wide .ensures) (c .unless2 .ensures ∙ ap unless (c .before .is-code .ensures))
 
 returns-3 : tie.Need-returns-3
 unfolding formOf formNumber
 returns-3 c =
-    let w = c .before .before .before .before in
-    let a = w .before .before .before .before .before .before .before in
-    let l : length (drop 16 (now (a .args .slot))) ≡ 16 = rw (length-drop, a .pre) in
-    rw (c .before .before .before .match .keys3)
-    (c .unless3 .ensures ∙ words-number (drop 16 (now (a .args .slot))) (now (a .args .value)) _ _ _ l (w .wide2 .ensures) (c .before .word-at .ensures))
+    let w = c .before in
+    rw (w .before .before .match .keys3) (c .unless3 .ensures ∙ words-number _ _ _ _ _ _ (w .before .word-in .ensures) (w .wide3 .ensures))
 
 returns-4 : tie.Need-returns-4
 unfolding formOf formNumber
@@ -134,19 +115,15 @@ judge-form-spec =
     tie.close
     (tie.spec
     shared-slice-read-kind
-    shared-slice-read-wide
-    wide-requires
-    shared-slice-read-wide-2
-    wide-requires-2
+    shared-slice-read-least
+    shared-slice-read-most
     unless-requires
+    wide-requires
+    wide-requires-2
     is-code-requires
     unless-requires-2
-    mul-word-at
-    add-word-at
-    sub-word-at
-    part-word-at-start
-    part-word-at-end
-    word-at-requires
+    word-in-requires
+    wide-requires-3
     unless-requires-3
     read-requires
     number-requires

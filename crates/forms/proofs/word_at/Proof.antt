@@ -7,7 +7,7 @@ use native.Mathlib.Omega.{arith}
 use borrow.Author.Needs.{needs}
 use Rattle.forms.specs.Forms.{wordAt}
 use Rattle.forms.specs.Slots.{wordsOf}
-use Rattle.forms.proofs.Turns.{word-here, word-further, word-none}
+use Rattle.forms.proofs.Turns.{word-here, word-further, word-none, four-from, fours}
 use Rattle.forms.proofs.word_at.Statement.{statement}
 use Rattle.forms.proofs.word_at.Tie as tie
 
@@ -41,7 +41,7 @@ equals-requires c κs = search needs
 returns : tie.Need-returns Inv-loop μ-loop
 returns c =
     let at = c .before .before .before .before in
-    word-here _ _ _ (at .loop .inv .2) (omega arith) (sym (c .before .equals .ensures) ∙ c .if1 .taken)
+    word-here _ _ _ (at .loop .inv .2) _ (four-from _ _ (c .before .before .before .loop-test .taken)) (sym (c .before .equals .ensures) ∙ c .if1 .taken)
 
 add-i : tie.Need-add-i Inv-loop μ-loop
 add-i c = omega arith
@@ -52,10 +52,10 @@ loop-less c = omega arith
 loop-again : tie.Need-loop-again Inv-loop μ-loop
 loop-again c =
     let at = c .before .before .before .before in
-    (refl, omega arith, word-further _ _ _ (at .loop .inv .2) (omega arith) (sym (c .before .equals .ensures) ∙ c .if1 .left))
+    (refl, omega arith, word-further _ _ _ (at .loop .inv .2) _ (four-from _ _ (c .before .before .before .loop-test .taken)) (sym (c .before .equals .ensures) ∙ c .if1 .left))
 
 returns-2 : tie.Need-returns-2 Inv-loop μ-loop
-returns-2 c = word-none _ _ _ (c .before .loop .inv .2) (omega arith)
+returns-2 c = word-none _ _ _ (c .before .loop .inv .2) (rw fours (omega arith))
 
 pub word-at-spec : {M : Type 1} → statement M
 word-at-spec =

@@ -3,7 +3,7 @@ use mathlib.Core.Path.{_≡_, refl, sym, ap}
 use native.Mathlib.Omega.{arith}
 use lib.ListN.{length}
 use Rattle.text.specs.Bytes.{bytes, parts}
-use Rattle.forms.specs.Slots.{wordsOf, formOf, slotAt}
+use Rattle.forms.specs.Slots.{reaches, lineIn, textIn, wordsIn, formOf, formIn, slotAt}
 use Rattle.layout.specs.Rows.{rowOf, keyOf, firstRow, rowsOf}
 use Rattle.table.specs.Table.{table, slots}
 use Rattle.values.specs.Values.{values, optional}
@@ -58,7 +58,7 @@ same-length : tie.Need-same-length
 same-length c = search needs
 
 returns : tie.Need-returns
-unfolding bytes parts wordsOf formOf slotAt slots rowOf keyOf firstRow rowsOf table optional
+unfolding bytes parts reaches lineIn textIn wordsIn formOf formIn slotAt slots rowOf keyOf firstRow rowsOf table optional
 returns c =
     let v = c .before .before .before .before .before .before .before .before .before .before .before .before .before .before .before in
     let s = v .before .before .before .before in

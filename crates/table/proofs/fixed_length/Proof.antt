@@ -4,11 +4,12 @@ use mathlib.Core.Path.{_≡_, refl, ap, _∙_}
 use mathlib.Core.List.{List}
 use lib.ListN.{length}
 use denote.Ref.{now}
-use Rattle.text.specs.Bytes.{bytes, parts}
+use Rattle.text.specs.Bytes.{bytes}
 use Rattle.forms.specs.Forms.{Slot}
-use Rattle.forms.specs.Slots.{wordsOf, formOf, slotAt}
-use Rattle.table.specs.Table.{slots}
-use Rattle.table.proofs.Tables.{places, slots-are}
+use Rattle.forms.specs.Slots.{reaches, lineIn, textIn, wordsIn, formOf, formIn, slotAt}
+use Rattle.table.specs.Table.{slots, lines}
+use Rattle.forms.proofs.Tables.{places}
+use Rattle.table.proofs.Tables.{slots-are}
 use borrow.Author.Needs.{needs}
 use Rattle.table.proofs.fixed_length.Statement.{statement}
 use Rattle.table.proofs.fixed_length.Tie as tie
@@ -23,11 +24,11 @@ fixed-text-requires c κs = search needs
 held : (c : tie.After-fixed-text) → (t : List ℕ) × (now (c .fixed-text .result) ≡ slotAt t (c .before .before .args .slot) .fixed)
 held c = (_, c .fixed-text .ensures)
 
-right : (c : tie.After-fixed-text) → places (held c .0) 0 32 ≡ slots
-unfolding held bytes parts wordsOf formOf slotAt slots
+right : (c : tie.After-fixed-text) → places (held c .0) 0 42 ≡ lines
+unfolding held bytes reaches lineIn textIn wordsIn formOf formIn slotAt slots
 right c = refl
 
-long : (c : tie.After-fixed-text) → length (held c .0) ≡ 1024
+long : (c : tie.After-fixed-text) → length (held c .0) ≡ 840
 unfolding held
 long c = refl
 

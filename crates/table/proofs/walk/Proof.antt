@@ -6,10 +6,11 @@ use lib.ListN.{length}
 use denote.Ref.{now}
 use Rattle.text.specs.Bytes.{bytes, parts}
 use Rattle.layout.specs.Rows.{rowOf, keyOf, firstRow, rowsOf}
-use Rattle.forms.specs.Slots.{wordsOf, formOf, slotAt}
+use Rattle.forms.specs.Slots.{reaches, lineIn, textIn, wordsIn, formOf, formIn, slotAt}
 use Rattle.walk.specs.Walk.{walkOf}
-use Rattle.table.specs.Table.{table, slots}
-use Rattle.table.proofs.Tables.{places, slots-are}
+use Rattle.table.specs.Table.{table, slots, lines}
+use Rattle.forms.proofs.Tables.{places}
+use Rattle.table.proofs.Tables.{slots-are}
 use borrow.Author.Needs.{needs}
 use Rattle.table.proofs.walk.Statement.{statement}
 use Rattle.table.proofs.walk.Tie as tie
@@ -32,8 +33,8 @@ is-table : (c : tie.After-walk) → rowsOf (lent c .0) ≡ table
 unfolding lent bytes parts rowOf keyOf firstRow rowsOf table
 is-table c = refl
 
-are-slots : (c : tie.After-walk) → (places (lent c .1) 0 32 ≡ slots) × (length (lent c .1) ≡ 1024)
-unfolding lent bytes parts wordsOf formOf slotAt slots
+are-slots : (c : tie.After-walk) → (places (lent c .1) 0 42 ≡ lines) × (length (lent c .1) ≡ 840)
+unfolding lent bytes reaches lineIn textIn wordsIn formOf formIn slotAt slots
 are-slots c = (refl, refl)
 
 returns : tie.Need-returns
