@@ -10,13 +10,13 @@ use lib.Dec.{eqb, ltb}
 use lib.ListN.{length, drop, getD}
 use borrow.Author.Tests.{eqb-true, eqb-false, eq-eqb, le-ltb}
 use Rattle.text.specs.Copy.{over}
+use Rattle.text.proofs.Bools.{of-both}
 use Rattle.trade.specs.declared.Trade.{Trade}
 use Rattle.trade.specs.Records.{tradeOf}
 use Rattle.trade.specs.declared.Kind.{Kind}
 use Rattle.lines.specs.Verdicts.{refused, pass, then}
 use Rattle.lines.specs.declared.Verdict.{Verdict}
 use Rattle.kinds.specs.Kinds.{when, recordPass}
-use Rattle.sheets.proofs.Small.{of-both}
 use Rattle.judge.specs.Judging.{judgeOf}
 use Rattle.mt515.specs.Reading.{reading, verdictOf, readOf}
 use Rattle.mt515.specs.declared.Reading.{Reading}

@@ -11,13 +11,13 @@ use lib.ListN.{length}
 use borrow.Author.Tests.{leb-true, le-leb, eqb-true, ne-eqb, not-true}
 use Rattle.text.specs.Bytes.{bytes, begins, same}
 use Rattle.text.specs.Classes.{isBetween}
+use Rattle.text.proofs.Bools.{or-case}
 use Rattle.text.proofs.Laws.{and-left, and-right, and-both}
 use Rattle.lines.specs.Verdicts.{refused, pass, then}
 use Rattle.lines.specs.Lines.{inFront, cutLines, bare, linesOf, ended, sizePass, mayStand, bytePass, endPass, linesPass}
 use Rattle.lines.proofs.Laws.{plain, Closed, passed}
-use Rattle.values.proofs.Printed.{printed}
+use Rattle.text.proofs.Printed.{printed}
 use Rattle.fill.specs.Filling.{joined}
-use Rattle.sheets.proofs.Small.{or-case}
 
 -- ---- lines of 20 to 7E hex
 

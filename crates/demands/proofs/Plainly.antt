@@ -14,6 +14,7 @@ use Rattle.text.specs.Bytes.{bytes, begins, same}
 use Rattle.text.specs.Classes.{isBetween, inClass, isC, isUpper, isDigit, allIn}
 use Rattle.text.specs.declared.Class.the-variants.{C}
 use Rattle.text.specs.Texts.{contents}
+use Rattle.text.proofs.Bools.{is-false, of-both, or-case, or-left, or-right, or-none, or-one, or-two}
 use Rattle.text.proofs.Laws.{and-left, and-right, begins-is}
 use Rattle.forms.specs.Forms.{unless, valueNumber, formNumber, isCode, isWord, wordAt}
 use Rattle.amount.specs.Amounts.{tidy}
@@ -24,7 +25,6 @@ use Rattle.trade.specs.declared.Trade.{Trade}
 use Rattle.sheets.specs.Sheets.{Entry, has, linesIn, Sheet}
 use Rattle.sheets.specs.Filled.{some, valueIn, filled}
 use Rattle.sheets.specs.Plain.{Group, inOrder, anyLine, groupsOf, keysOf}
-use Rattle.sheets.proofs.Small.{is-false, of-both, or-case, or-left, or-right, or-none, or-one, or-two}
 use Rattle.sheets.proofs.Checks.{full, mustSlots, firstSlots}
 use Rattle.sheets.proofs.Once.{slotsHeld}
 use Rattle.sheets.proofs.Order.{Missing, plain-behind, value-absent}

@@ -8,6 +8,7 @@ use lib.Dec.{leb, ltb, eqb}
 use lib.ListN.{length, drop}
 use borrow.Author.Tests.{leb-true}
 use Rattle.text.specs.Bytes.{bytes, begins, same}
+use Rattle.text.proofs.Bools.{of-both}
 use Rattle.lines.specs.Verdicts.{refused, pass, then}
 use Rattle.lines.specs.Lines.{linesOf, ended, mayStand, sizePass, bytePass, endPass, linesPass}
 use Rattle.lines.specs.declared.Verdict.{Verdict}
@@ -24,7 +25,6 @@ use Rattle.layout.specs.declared.Place.{Place}
 use Rattle.layout.specs.declared.Step.{Step}
 use Rattle.layout.specs.declared.Look.{Look}
 use Rattle.layout.specs.declared.Look.the-variants.{Decided, Further}
-use Rattle.sheets.proofs.Small.{of-both}
 use Rattle.table.specs.Table.{table, slotOf}
 use Rattle.walk.specs.Walk.{valueVerdict, valuesPass, bodyPass}
 use Rattle.forms.specs.Narrative.{isNarrative}

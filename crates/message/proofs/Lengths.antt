@@ -12,6 +12,7 @@ use borrow.Author.Tests.{eqb-true, eqb-false, ltb-false}
 use Rattle.text.specs.Bytes.{bytes}
 use Rattle.text.specs.Texts.{contents}
 use Rattle.text.specs.declared.Text.{Text}
+use Rattle.text.proofs.Bools.{or-left, or-right}
 use Rattle.text.proofs.Laws.{and-right}
 use Rattle.trade.specs.declared.Kind.{Kind}
 use Rattle.trade.specs.declared.Side.{Side}
@@ -127,14 +128,6 @@ header-grows p q ls most a b h =
     omega arith
 
 -- ---- what is not there has no bytes
-
-or-left : (a b : Bool) → (a || b) ≡ false → a ≡ false
-or-left true b e = e
-or-left false b e = refl
-
-or-right : (a b : Bool) → (a || b) ≡ false → b ≡ false
-or-right true b e = absurd (true≢false e)
-or-right false b e = e
 
 no-text : (x : Text) → present x ≡ false → length (contents x) ≤ 0
 unfolding contents

@@ -1,2 +1,4 @@
+pub mod Bools
 pub mod Laws
+pub mod Printed
 pub mod Turns

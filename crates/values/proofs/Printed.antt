@@ -1,19 +1,18 @@
 -- What callers cite besides: every byte of a value of a record in form is from 20 to 7E hex, so that no value holds a line ending.
 -- Assumes nothing.
-use Prim.Native.Nat.{ℕ, _≤_}
+use Prim.Native.Nat.{ℕ}
 use mathlib.Core.Path.{_≡_, refl, ap, _∙_}
-use mathlib.Core.Bool.{Bool, true, false, _&&_, _||_, cond}
+use mathlib.Core.Bool.{Bool, true, false, _||_, cond}
 use mathlib.Core.List.{List, [], _∷_, _++_}
-use native.Mathlib.Omega.{arith}
-use lib.Dec.{leb, ltb}
+use lib.Dec.{ltb}
 use lib.ListN.{List·getD-eq-default}
-use borrow.Author.Tests.{leb-true, le-leb, ltb-true, ltb-false}
+use borrow.Author.Tests.{ltb-true, ltb-false}
 use Rattle.text.specs.Bytes.{bytes}
-use Rattle.text.specs.Classes.{isBetween, isDigit, isUpper, isC, inClass, allIn}
+use Rattle.text.specs.Classes.{isBetween}
 use Rattle.text.specs.Texts.{contents, inForm as textForm}
-use Rattle.text.specs.declared.Class.the-variants.{C, Digit}
 use Rattle.text.specs.declared.Text.{Text}
-use Rattle.text.proofs.Laws.{and-left, and-right, and-both, in-form-facts}
+use Rattle.text.proofs.Laws.{and-right, in-form-facts}
+use Rattle.text.proofs.Printed.{printed, printed-append, digits-printed, codes-printed}
 use Rattle.digits.specs.Numerals.{digits}
 use Rattle.digits.proofs.Laws.{all-digits}
 use Rattle.amount.specs.Amounts.{whole, decimals, amountText, inForm as amountForm}
@@ -31,40 +30,6 @@ use Rattle.values.specs.Values.{kindWord, sideWord, serviceWord, periodT
 use Rattle.values.specs.Writable.{reasonForm, periodForm, tests, inForm}
 use Rattle.values.proofs.Fields.{Each, _⨾_, each-at}
 use Rattle.values.proofs.Laws.{test}
-
-unfoldable pub printed : List ℕ → Bool
-printed [] = true
-printed (b ∷ s) = isBetween 32 126 b && printed s
-
-pub printed-append : (s t : List ℕ) → printed s ≡ true → printed t ≡ true → printed (s ++ t) ≡ true
-unfolding printed
-printed-append [] t p q = q
-printed-append (b ∷ s) t p q = and-both (and-left (isBetween 32 126 b) (printed s) p) (printed-append s t (and-right (isBetween 32 126 b) _ p) q)
-
-between : (low high b : ℕ) → 32 ≤ low → high ≤ 126 → isBetween low high b ≡ true → isBetween 32 126 b ≡ true
-unfolding isBetween
-between low high b l h e =
-    let p : low ≤ b = leb-true low b (and-left _ _ e) in
-    let q : b ≤ high = leb-true b high (and-right (leb low b) _ e) in
-    and-both (le-leb 32 b (omega arith)) (le-leb b 126 (omega arith))
-
-digits-printed : (s : List ℕ) → allIn Digit s ≡ true → printed s ≡ true
-unfolding printed allIn inClass isDigit
-digits-printed [] e = refl
-digits-printed (b ∷ s) e = and-both (between 48 57 b (omega arith) (omega arith) (and-left _ _ e)) (digits-printed s (and-right (isDigit b) _ e))
-
-byte-printed : (b : ℕ) → isC b ≡ true → isBetween 32 126 b ≡ true
-unfolding isC isUpper isDigit
-byte-printed b e = go (isBetween 65 90 b) refl e
-  where
-    go : (u : Bool) → isBetween 65 90 b ≡ u → (u || isBetween 48 57 b) ≡ true → isBetween 32 126 b ≡ true
-    go true t h = between 65 90 b (omega arith) (omega arith) t
-    go false t h = between 48 57 b (omega arith) (omega arith) h
-
-codes-printed : (s : List ℕ) → allIn C s ≡ true → printed s ≡ true
-unfolding printed allIn inClass
-codes-printed [] e = refl
-codes-printed (b ∷ s) e = and-both (byte-printed b (and-left _ _ e)) (codes-printed s (and-right (isC b) _ e))
 
 text-printed : (least most : ℕ) (t : Text) → textForm least most t ≡ true → printed (contents t) ≡ true
 text-printed least most t e = codes-printed (contents t) (in-form-facts least most t e .4)

@@ -10,6 +10,7 @@ use lib.Dec.{leb, ltb, eqb}
 use lib.ListN.{length, take, drop, getD, set, replicate, length-take, length-drop, length-set, drop-of-length-le}
 use lib.Seq.{take-nil, drop-drop, getD-set-same, getD-set-other}
 use borrow.Author.Tests.{le-leb, leb-false, ltb-true, ltb-false, eqb-true, eqb-false}
+use Rattle.text.proofs.Bools.{of-both}
 use Rattle.lines.specs.Lines.{linesOf, lineAt, startBehind, endOf}
 use Rattle.lines.proofs.Laws.{located, lines-behind, begins}
 use Rattle.stretches.specs.Stretches.{between, stretchOf}
@@ -62,11 +63,6 @@ unfolding withTaken takenIn Standing
 with-standing m t (refusedAt number line) h s = tt
 with-standing m t (taken ts) h s = (h, s)
 
--- a choice has what both its sides have
-of-both : {A : Type 0} (P : A → Type 0) (b : Bool) {x y : A} → P x → P y → P (cond b x y)
-of-both P true f g = f
-of-both P false f g = g
-
 -- the first line from a place on, and those behind it
 record First (m : List ℕ) (k : ℕ) (l : List ℕ) (ls : List (List ℕ)) : Type 0 where
   from : startBehind m k ≤ endOf m (suc k)
@@ -112,8 +108,8 @@ module _ (m : List ℕ) (table : List Row) where
       let ih = stand-in ls (step .place) (marked seen step) (suc k) (f .rest) in
       let P : Run → Type 0 = λ (r : Run). Standing m (takenIn r) in
       of-both P (eqb (step .number) 0)
-      (of-both P (eqb (step .slot) 0) ih (with-standing m _ _ (stands k (step .slot) (step .width) l ls f (takes-within table here seen l)) ih))
-      tt
+      (λ _. of-both P (eqb (step .slot) 0) (λ _. ih) (λ _. with-standing m _ _ (stands k (step .slot) (step .width) l ls f (takes-within table here seen l)) ih))
+      (λ _. tt)
 
   pub standing : Standing m (takenIn (layoutOf table 5 (drop 4 (linesOf m))))
   unfolding layoutOf
