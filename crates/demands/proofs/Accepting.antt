@@ -36,7 +36,7 @@ use Rattle.values.proofs.Laws.{same-values}
 use Rattle.mt515.specs.Body.{lineOf, headerPass, bodyOf, valueIn as valueAt}
 use Rattle.mt515.specs.Reading.{reading, verdictOf, readOf}
 use Rattle.demands.specs.Lawful.{Valued, saidIn, Lawful}
-use Rattle.demands.proofs.Joins.{Whole, whole-lines}
+use Rattle.lines.proofs.Joins.{Whole, whole-lines}
 use Rattle.demands.proofs.Nests.{sheet-nests}
 use Rattle.demands.proofs.Said.{values-pass, valued, all-full, said-is}
 use Rattle.demands.proofs.Holds.{Headed, header-is}

@@ -1,4 +1,3 @@
-pub mod Joins
 pub mod Nests
 pub mod Pieces
 pub mod Codes

@@ -14,11 +14,10 @@ use borrow.Author.Tests.{not-true}
 use Rattle.text.specs.Bytes.{bytes, same, before}
 use Rattle.text.proofs.Bools.{of-both}
 use Rattle.text.proofs.Laws.{and-left, and-right, same-refl}
-use Rattle.lines.specs.Lines.{inFront, cutLines, bare, linesOf, ended, linesPass}
+use Rattle.lines.specs.Lines.{inFront, cutLines, bare, linesOf, ended, joined, linesPass}
 use Rattle.lines.proofs.Laws.{plain, Closed, passed}
-use Rattle.fill.specs.Filling.{joined}
 use Rattle.demands.specs.Pieces.{cutBehind, withoutEnding, isDash, throughDash, pieceOf, piecesIn, pieces, together, cases, Answered}
-use Rattle.demands.proofs.Joins.{lines-joined, Whole, ended-whole, some-bytes}
+use Rattle.lines.proofs.Joins.{lines-joined, Whole, ended-whole, some-bytes}
 
 -- ---- the pieces of a batch are all of it
 

@@ -34,9 +34,9 @@ use Rattle.table.specs.Tree.{link, party, general, pool, details, tree}
 use Rattle.table.proofs.Trees.{is-tellable, is-sole}
 use Rattle.values.specs.Values.{values, valueOf, optional, tidied}
 use Rattle.values.proofs.Laws.{named, lined, Held, values-back, number-form}
-use Rattle.lines.specs.Lines.{linesOf}
+use Rattle.lines.specs.Lines.{linesOf, joined}
 use Rattle.mt515.specs.Body.{lineOf, headerValue}
-use Rattle.fill.specs.Filling.{joined, isAny}
+use Rattle.fill.specs.Filling.{isAny}
 use Rattle.message.specs.Messages.{behindKey, headerOf, linesFor, messageOf}
 use Rattle.message.specs.Plain.{links, parties, tidyBehind, tidyLine, plainLines, plainOf}
 use Rattle.demands.specs.Lawful.{Valued, saidIn, Lawful}

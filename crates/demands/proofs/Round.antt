@@ -15,7 +15,7 @@ use Rattle.text.specs.Texts.{contents}
 use Rattle.text.proofs.Bools.{or-case, or-one, or-two, of-both}
 use Rattle.text.proofs.Laws.{and-left, and-right, same-refl}
 use Rattle.lines.specs.Verdicts.{pass, refused, then}
-use Rattle.lines.specs.Lines.{linesOf, linesPass}
+use Rattle.lines.specs.Lines.{linesOf, joined, linesPass}
 use Rattle.lines.specs.declared.Verdict.{Verdict}
 use Rattle.trade.specs.Records.{tradeOf}
 use Rattle.trade.specs.declared.Kind.{Kind}
@@ -39,10 +39,9 @@ use Rattle.judge.proofs.Laws.{judge-zero}
 use Rattle.mt515.specs.Body.{lineOf, headerVerdict, headerPass, headerValue}
 use Rattle.mt515.specs.Reading.{verdictOf, readOf}
 use Rattle.message.proofs.Lengths.{message-most}
-use Rattle.fill.specs.Filling.{joined}
 use Rattle.message.specs.Messages.{behindKey, headerOf, linesFor, messageOf}
 use Rattle.demands.specs.Lawful.{Valued, saidIn, Lawful}
-use Rattle.demands.proofs.Joins.{Whole, lines-joined, passes-joined}
+use Rattle.lines.proofs.Joins.{Whole, lines-joined, passes-joined}
 use Rattle.demands.proofs.Holds.{no-length, allBelow, all-at, not-header}
 use Rattle.demands.proofs.Accepting.{accepted-line, lawful-accepted, body-taken, record-said}
 

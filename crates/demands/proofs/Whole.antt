@@ -34,7 +34,7 @@ use Rattle.values.proofs.Printed.{value-printed}
 use Rattle.judge.specs.Judging.{judgeOf}
 use Rattle.judge.proofs.Laws.{judge-zero}
 use Rattle.message.specs.Messages.{behindKey, headerOf, linesFor}
-use Rattle.demands.proofs.Joins.{allPrintable, printable-append, Whole}
+use Rattle.lines.proofs.Joins.{allPrintable, printable-append, Whole}
 use Rattle.demands.proofs.Codes.{code-same}
 use Rattle.demands.proofs.Holds.{allBelow, all-at}
 

@@ -1,3 +1,4 @@
 pub mod Laws
+pub mod Joins
 pub mod Turns
 pub mod Cases

@@ -14,6 +14,7 @@ use Rattle.text.specs.Texts.{contents}
 use Rattle.text.specs.declared.Text.{Text}
 use Rattle.text.proofs.Bools.{or-left, or-right}
 use Rattle.text.proofs.Laws.{and-right}
+use Rattle.lines.specs.Lines.{joined}
 use Rattle.trade.specs.declared.Kind.{Kind}
 use Rattle.trade.specs.declared.Side.{Side}
 use Rattle.trade.specs.declared.Service.{Service}
@@ -23,7 +24,7 @@ use Rattle.kinds.specs.Kinds.{present, hasDays, other, own, contra, stray, tddk
 use Rattle.kinds.proofs.Laws.{passes}
 use Rattle.sheets.specs.Sheets.{lineOf, linesIn}
 use Rattle.sheets.specs.Filled.{some, anyField, anyMember, anyIn, filledFields, filledMembers, filled}
-use Rattle.fill.specs.Filling.{joined, isAny}
+use Rattle.fill.specs.Filling.{isAny}
 use Rattle.table.specs.Table.{slots, slotOf, fixedOf}
 use Rattle.table.specs.Tree.{general, pool, details, tree}
 use Rattle.values.specs.Values.{serviceWord, periodText, reasonText, narrative, values, valueOf, optional}
