@@ -28,10 +28,10 @@ use Rattle.message.proofs.Cases.{answered}
 use Rattle.message.proofs.Lengths.{message-most}
 use Rattle.message.proofs.Writes.{writable-judged}
 use Rattle.demands.specs.Lawful.{saidIn, Lawful}
-use Rattle.demands.specs.Pieces.{pieces, together}
+use Rattle.pieces.specs.Pieces.{pieces, together}
 use Rattle.demands.specs.Demands.{Accepted, recordOf, accepts, AllWritable, written, Demands}
 use Rattle.lines.proofs.Joins.{Whole}
-use Rattle.demands.proofs.Pieces.{Message, Messages, message-joined, no-beginning, pieces-of, same-batch}
+use Rattle.pieces.proofs.Pieces.{Message, Messages, message-joined, no-beginning, pieces-of, same-batch}
 use Rattle.demands.proofs.Accepting.{body-taken, record-said, accepted-line, accepted-lawful, lawful-accepted}
 use Rattle.demands.proofs.Writes.{read-judged, read-plain}
 use Rattle.demands.proofs.Round.{written-read}

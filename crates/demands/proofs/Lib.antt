@@ -1,5 +1,4 @@
 pub mod Nests
-pub mod Pieces
 pub mod Codes
 pub mod Said
 pub mod Holds

@@ -38,9 +38,10 @@ use Rattle.message.specs.Writing.{writeNumber}
 use Rattle.mt515.specs.Body.{lineOf, headerVerdict, headerPass, bodyOf}
 use Rattle.mt515.specs.Reading.{reading, verdictOf, readOf}
 use Rattle.plain.specs.Asking.{askVerdict, roomPass}
-use Rattle.demands.specs.Pieces.{pieceOf}
-use Rattle.batch.specs.Batch.{turnOf, blankReading, saysOf, nextOf}
-use Rattle.batch.specs.declared.Turn.{Turn as Batch-turn}
+use Rattle.pieces.specs.declared.Turn.{Turn as Batch-turn}
+use Rattle.pieces.specs.Pieces.{pieceOf}
+use Rattle.pieces.specs.Turns.{turnOf}
+use Rattle.batch.specs.Batch.{blankReading, saysOf, nextOf}
 use Rattle.gateway.specs.Numbers.{Numbers}
 
 -- ---- a number up to another, and what holds of either of two

@@ -16,8 +16,8 @@ use Rattle.text.proofs.Bools.{of-both}
 use Rattle.text.proofs.Laws.{and-left, and-right, same-refl}
 use Rattle.lines.specs.Lines.{inFront, cutLines, bare, linesOf, ended, joined, linesPass}
 use Rattle.lines.proofs.Laws.{plain, Closed, passed}
-use Rattle.demands.specs.Pieces.{cutBehind, withoutEnding, isDash, throughDash, pieceOf, piecesIn, pieces, together, cases, Answered}
 use Rattle.lines.proofs.Joins.{lines-joined, Whole, ended-whole, some-bytes}
+use Rattle.pieces.specs.Pieces.{cutBehind, withoutEnding, isDash, throughDash, pieceOf, piecesIn, pieces, together, cases, Answered}
 
 -- ---- the pieces of a batch are all of it
 
