@@ -1,27 +1,22 @@
--- Document 01, "Batch": from a position, a piece runs through the first line that is `-`, or to the end where there is none. It is
--- read as if alone, and the next position is just after it, also after a refusal. At the end the answer is "done". After "done" and
--- after 21 the position stays as given, beside the blank record. And what calling again and again finds: the cutting of demand 3.
-use Prim.Native.Nat.{ℕ, _+_}
+-- Document 01, "Batch": from a position, a piece is read as if alone, and the next position is just after it, also after a refusal. At
+-- the end the answer is "done"; after "done" and after 21 the position stays as given, beside the blank record. And what calling
+-- again and again finds: the cutting of demand 3.
+use Prim.Native.Nat.{ℕ}
 use mathlib.Core.Path.{_≡_}
-use mathlib.Core.Bool.{cond}
-use mathlib.Core.List.{List, [], _∷_, map}
-use lib.Dec.{ltb, eqb}
-use lib.ListN.{length, drop}
+use mathlib.Core.List.{List, map}
+use lib.ListN.{drop}
+use Rattle.pieces.specs.declared.Turn.{Turn}
+use Rattle.pieces.specs.declared.Turn.the-variants.{Message, Done, Past}
+use Rattle.pieces.specs.Pieces.{pieceOf, pieces}
+use Rattle.pieces.specs.Turns.{turnOf, behindOf, Gives}
 use Rattle.trade.specs.Records.{blankTrade}
 use Rattle.trade.specs.declared.Trade.{Trade}
 use Rattle.mt515.specs.Reading.{readOf}
 use Rattle.mt515.specs.declared.Reading.{Reading}
-use Rattle.demands.specs.Pieces.{pieceOf, pieces}
 use Rattle.demands.specs.Demands.{accepts, AllWritable, written}
-use Rattle.batch.specs.declared.Turn.{Turn}
-use Rattle.batch.specs.declared.Turn.the-variants.{Message, Done, Past}
 use Rattle.batch.specs.declared.Answer.{Answer}
 
 -- ---- one answer
-
--- within the batch there is a piece; at its end it is done; a position past the end is 21's
-unfoldable pub turnOf : List ℕ → ℕ → Turn
-turnOf batch position = cond (ltb position (length batch)) Message (cond (eqb position (length batch)) Done Past)
 
 -- a number with line 0, beside the blank record
 unfoldable pub blankReading : ℕ → Reading
@@ -33,12 +28,6 @@ saysOf Message piece = readOf piece
 saysOf Done piece = blankReading 0
 saysOf Past piece = blankReading 21
 
--- and the next position
-unfoldable pub behindOf : Turn → ℕ → List ℕ → ℕ
-behindOf Message position piece = position + length piece
-behindOf Done position piece = position
-behindOf Past position piece = position
-
 unfoldable pub nextOf : List ℕ → ℕ → Answer
 nextOf batch position =
     let turn = turnOf batch position in
@@ -48,24 +37,20 @@ nextOf batch position =
 -- ---- one answer after the other
 
 -- called from a position on, each time from the position that was answered last, it gives these readings and then says "done"
-unfoldable pub Gives : List ℕ → ℕ → List Reading → Type 0
-Gives batch position [] = nextOf batch position .turn ≡ Done
-Gives batch position (r ∷ rs) =
-    (nextOf batch position .turn ≡ Message)
-    × (nextOf batch position .reading ≡ r)
-    × Gives batch (nextOf batch position .position) rs
+abbrev pub NextGives : List ℕ → ℕ → List Reading → Type 0
+NextGives batch = Gives (λ at. nextOf batch at .turn) (λ at. nextOf batch at .reading) (λ at. nextOf batch at .position)
 
 -- of every batch it gives the reading of each piece, and then it is done
 abbrev pub ReadsPieces : Type 0
-ReadsPieces = (batch : List ℕ) → Gives batch 0 (map readOf (pieces batch))
+ReadsPieces = (batch : List ℕ) → NextGives batch 0 (map readOf (pieces batch))
 
 -- of records that were written one behind the other it gives just these records
 abbrev pub ReadsWritten : Type 0
-ReadsWritten = (ts : List Trade) → AllWritable ts → Gives (written ts) 0 (map accepts ts)
+ReadsWritten = (ts : List Trade) → AllWritable ts → NextGives (written ts) 0 (map accepts ts)
 
 -- and nothing else: there is one such list at most
 abbrev pub NoOther : Type 0
-NoOther = (batch : List ℕ) (position : ℕ) (rs qs : List Reading) → Gives batch position rs → Gives batch position qs → rs ≡ qs
+NoOther = (batch : List ℕ) (position : ℕ) (rs qs : List Reading) → NextGives batch position rs → NextGives batch position qs → rs ≡ qs
 
 pub record Cutting : Type 0 where
   pub reads-pieces : ReadsPieces

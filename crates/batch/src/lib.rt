@@ -2,40 +2,15 @@
 //
 // What is right stands in specs/Batch.
 use mt515::Reading;
+use pieces::Turn;
 ghost use mathlib.Core.Path.{_≡_};
-ghost use Prim.Native.Nat.{_+_};
-ghost use lib.ListN.{length, drop};
-ghost use Rattle.demands.specs.Pieces.{pieceOf};
 ghost use Rattle.batch.specs.Batch.{blankReading, nextOf};
-
-// What stands at a position: a message, accepted or refused; the end of the batch; nothing, since it is past the end.
-pub enum Turn {
-    Message,
-    Done,
-    Past,
-}
 
 // What the desk gets back of a position: what stands there, how it is read, and the position to go on from.
 pub struct Answer {
     pub turn: Turn,
     pub reading: Reading,
     pub position: usize,
-}
-
-// Where the piece at a position ends: just after the first line that is `-`, or at the end where there is none.
-fn piece_end(batch: &[u8], position: usize) -> usize
-    ensures { λ r. ⌜ r ≡ position + length (pieceOf (drop position (now (batch .entry)))) ⌝ }
-{
-    let mut at = position;
-    while at < batch.len() {
-        let line = lines::line_at(batch, at);
-        let end = line.end;
-        if text::equals(&batch[at..end], b"-") {
-            return line.next;
-        }
-        at = line.next;
-    }
-    at
 }
 
 // What is said where no message stands.
@@ -67,7 +42,7 @@ pub fn next(batch: &[u8], position: usize) -> Answer
             position,
         };
     }
-    let end = piece_end(batch, position);
+    let end = pieces::piece_end(batch, position);
     Answer {
         turn: Turn::Message,
         reading: mt515::read(&batch[position..end]),

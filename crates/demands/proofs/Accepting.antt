@@ -8,6 +8,7 @@ use lib.Dec.{eqb}
 use lib.ListN.{length, drop, getD, set}
 use Rattle.text.specs.Bytes.{bytes, same}
 use Rattle.text.specs.Classes.{isBetween}
+use Rattle.text.proofs.Bools.{of-both}
 use Rattle.text.proofs.Laws.{same-refl}
 use Rattle.lines.specs.Verdicts.{then, pass, refused}
 use Rattle.lines.specs.Lines.{linesOf, linesPass}
@@ -20,7 +21,6 @@ use Rattle.layout.specs.declared.Place.{Place}
 use Rattle.layout.specs.declared.Step.{Step}
 use Rattle.sheets.specs.Sheets.{Entry, linesIn, takenIn, has, Sheet}
 use Rattle.sheets.specs.Trees.{tableOf}
-use Rattle.sheets.proofs.Small.{of-both}
 use Rattle.sheets.proofs.Checks.{full}
 use Rattle.sheets.proofs.Accepts.{reads}
 use Rattle.sheets.proofs.Cuts.{cuts}
@@ -36,7 +36,7 @@ use Rattle.values.proofs.Laws.{same-values}
 use Rattle.mt515.specs.Body.{lineOf, headerPass, bodyOf, valueIn as valueAt}
 use Rattle.mt515.specs.Reading.{reading, verdictOf, readOf}
 use Rattle.demands.specs.Lawful.{Valued, saidIn, Lawful}
-use Rattle.demands.proofs.Joins.{Whole, whole-lines}
+use Rattle.lines.proofs.Joins.{Whole, whole-lines}
 use Rattle.demands.proofs.Nests.{sheet-nests}
 use Rattle.demands.proofs.Said.{values-pass, valued, all-full, said-is}
 use Rattle.demands.proofs.Holds.{Headed, header-is}

@@ -9,8 +9,8 @@ use borrow.Author.Tests.{eqb-true}
 use Rattle.text.specs.Bytes.{begins, same}
 use Rattle.text.specs.Classes.{isC, inClass, allIn}
 use Rattle.text.specs.declared.Class.the-variants.{C}
+use Rattle.text.proofs.Bools.{is-false}
 use Rattle.text.proofs.Laws.{and-left, same-eq, begins-append}
-use Rattle.sheets.proofs.Small.{is-false}
 use mathlib.Core.List.{append-nil}
 
 pub code-begins : (x : ℕ) (k v : List ℕ) → isC x ≡ false → allIn C v ≡ true → begins (x ∷ k) v ≡ false

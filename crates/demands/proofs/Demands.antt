@@ -10,13 +10,13 @@ use lib.Dec.{eqb, ltb}
 use lib.ListN.{length, drop, getD}
 use borrow.Author.Tests.{eqb-true, eqb-false, eq-eqb, le-ltb}
 use Rattle.text.specs.Copy.{over}
+use Rattle.text.proofs.Bools.{of-both}
 use Rattle.trade.specs.declared.Trade.{Trade}
 use Rattle.trade.specs.Records.{tradeOf}
 use Rattle.trade.specs.declared.Kind.{Kind}
 use Rattle.lines.specs.Verdicts.{refused, pass, then}
 use Rattle.lines.specs.declared.Verdict.{Verdict}
 use Rattle.kinds.specs.Kinds.{when, recordPass}
-use Rattle.sheets.proofs.Small.{of-both}
 use Rattle.judge.specs.Judging.{judgeOf}
 use Rattle.mt515.specs.Reading.{reading, verdictOf, readOf}
 use Rattle.mt515.specs.declared.Reading.{Reading}
@@ -28,10 +28,10 @@ use Rattle.message.proofs.Cases.{answered}
 use Rattle.message.proofs.Lengths.{message-most}
 use Rattle.message.proofs.Writes.{writable-judged}
 use Rattle.demands.specs.Lawful.{saidIn, Lawful}
-use Rattle.demands.specs.Pieces.{pieces, together}
+use Rattle.pieces.specs.Pieces.{pieces, together}
 use Rattle.demands.specs.Demands.{Accepted, recordOf, accepts, AllWritable, written, Demands}
-use Rattle.demands.proofs.Joins.{Whole}
-use Rattle.demands.proofs.Pieces.{Message, Messages, message-joined, no-beginning, pieces-of, same-batch}
+use Rattle.lines.proofs.Joins.{Whole}
+use Rattle.pieces.proofs.Pieces.{Message, Messages, message-joined, no-beginning, pieces-of, same-batch}
 use Rattle.demands.proofs.Accepting.{body-taken, record-said, accepted-line, accepted-lawful, lawful-accepted}
 use Rattle.demands.proofs.Writes.{read-judged, read-plain}
 use Rattle.demands.proofs.Round.{written-read}

@@ -13,6 +13,7 @@ use lib.Seq.{drop-nil}
 use borrow.Author.Tests.{eqb-true, eqb-false, ne-eqb, not-true, leb-true}
 use Rattle.text.specs.Bytes.{bytes, begins, same}
 use Rattle.text.specs.Classes.{isBetween}
+use Rattle.text.proofs.Bools.{is-false, of-both, or-case, or-left, or-right, or-none}
 use Rattle.text.proofs.Laws.{and-left, and-right, begins-is, same-eq}
 use Rattle.forms.specs.Forms.{isCode}
 use Rattle.forms.proofs.Laws.{value-begins}
@@ -22,7 +23,6 @@ use Rattle.trade.specs.Records.{kindIn}
 use Rattle.kinds.specs.Kinds.{functionOf}
 use Rattle.sheets.specs.Sheets.{Entry, edge, held, has, Sheet}
 use Rattle.sheets.specs.Filled.{valueIn}
-use Rattle.sheets.proofs.Small.{is-false, of-both, or-case, or-left, or-right, or-none}
 use Rattle.sheets.proofs.Checks.{slotsOf, mustSlots, firstSlots}
 use Rattle.sheets.proofs.Once.{slotsHeld}
 use Rattle.sheets.proofs.Order.{value-absent}

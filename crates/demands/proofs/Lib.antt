@@ -1,6 +1,4 @@
-pub mod Joins
 pub mod Nests
-pub mod Pieces
 pub mod Codes
 pub mod Said
 pub mod Holds

@@ -14,6 +14,7 @@ use Rattle.text.specs.Bytes.{bytes, begins, same}
 use Rattle.text.specs.Classes.{isBetween, inClass, isC, isUpper, isDigit, allIn}
 use Rattle.text.specs.declared.Class.the-variants.{C}
 use Rattle.text.specs.Texts.{contents}
+use Rattle.text.proofs.Bools.{is-false, of-both, or-case, or-left, or-right, or-none, or-one, or-two}
 use Rattle.text.proofs.Laws.{and-left, and-right, begins-is}
 use Rattle.forms.specs.Forms.{unless, valueNumber, formNumber, isCode, isWord, wordAt}
 use Rattle.forms.proofs.Laws.{unless-good, code-all}
@@ -25,7 +26,6 @@ use Rattle.trade.specs.declared.Trade.{Trade}
 use Rattle.sheets.specs.Sheets.{Entry, has, linesIn, Sheet}
 use Rattle.sheets.specs.Filled.{some, valueIn, filled}
 use Rattle.sheets.specs.Plain.{Group, inOrder, anyLine, groupsOf, keysOf}
-use Rattle.sheets.proofs.Small.{is-false, of-both, or-case, or-left, or-right, or-none, or-one, or-two}
 use Rattle.sheets.proofs.Checks.{full, mustSlots, firstSlots}
 use Rattle.sheets.proofs.Once.{slotsHeld}
 use Rattle.sheets.proofs.Order.{Missing, plain-behind, value-absent}
@@ -35,9 +35,9 @@ use Rattle.table.specs.Tree.{link, party, general, pool, details, tree}
 use Rattle.table.proofs.Trees.{is-tellable, is-sole}
 use Rattle.values.specs.Values.{values, valueOf, optional, tidied}
 use Rattle.values.proofs.Laws.{named, lined, Held, values-back, number-form}
-use Rattle.lines.specs.Lines.{linesOf}
+use Rattle.lines.specs.Lines.{linesOf, joined}
 use Rattle.mt515.specs.Body.{lineOf, headerValue}
-use Rattle.fill.specs.Filling.{joined, isAny}
+use Rattle.fill.specs.Filling.{isAny}
 use Rattle.message.specs.Messages.{behindKey, headerOf, linesFor, messageOf}
 use Rattle.message.specs.Plain.{links, parties, tidyBehind, tidyLine, plainLines, plainOf}
 use Rattle.demands.specs.Lawful.{Valued, saidIn, Lawful}

@@ -2,7 +2,7 @@
 -- Assumes nothing.
 use Prim.Native.Nat.{ℕ, suc, _<_, _≤_}
 use mathlib.Core.Path.{_≡_, refl, sym, ap, _∙_}
-use mathlib.Core.Bool.{Bool, true, false, _&&_, _||_, not, cond, true≢false}
+use mathlib.Core.Bool.{Bool, true, false, _&&_, _||_, not, cond, or-true, true≢false}
 use mathlib.Core.List.{List, [], _∷_, _++_}
 use native.Mathlib.Omega.{arith}
 use lib.Dec.{eqb, leb}
@@ -12,9 +12,10 @@ use borrow.Author.Tests.{eqb-true, eqb-false, eq-eqb, leb-true}
 use Rattle.text.specs.Bytes.{bytes, same}
 use Rattle.text.specs.Classes.{isBetween}
 use Rattle.text.specs.Texts.{contents}
+use Rattle.text.proofs.Bools.{or-case, or-one, or-two, of-both}
 use Rattle.text.proofs.Laws.{and-left, and-right, same-refl}
 use Rattle.lines.specs.Verdicts.{pass, refused, then}
-use Rattle.lines.specs.Lines.{linesOf, linesPass}
+use Rattle.lines.specs.Lines.{linesOf, joined, linesPass}
 use Rattle.lines.specs.declared.Verdict.{Verdict}
 use Rattle.trade.specs.Records.{tradeOf}
 use Rattle.trade.specs.declared.Kind.{Kind}
@@ -23,7 +24,6 @@ use Rattle.kinds.specs.Kinds.{functionOf, kindsPass, recordPass, when}
 use Rattle.kinds.proofs.Laws.{own-function}
 use Rattle.sheets.specs.Sheets.{Entry, edge, held, linesIn, has, Sheet}
 use Rattle.sheets.specs.Filled.{some, valueIn, anyIn, anyField, anyMember, filled}
-use Rattle.sheets.proofs.Small.{or-true, or-case, or-one, or-two, of-both}
 use Rattle.sheets.proofs.Checks.{slotsOf, memberSlots, ownSlots, fieldSlots, withTree, withMembers, withFields, full, complete, allMembers, wholeMembers, solid, solidMembers, solidFields}
 use Rattle.sheets.proofs.Emits.{emits, values, Fits, fits-filled}
 use Rattle.sheets.proofs.Once.{slotsHeld, inside}
@@ -39,10 +39,9 @@ use Rattle.judge.proofs.Laws.{judge-zero}
 use Rattle.mt515.specs.Body.{lineOf, headerVerdict, headerPass, headerValue}
 use Rattle.mt515.specs.Reading.{verdictOf, readOf}
 use Rattle.message.proofs.Lengths.{message-most}
-use Rattle.fill.specs.Filling.{joined}
 use Rattle.message.specs.Messages.{behindKey, headerOf, linesFor, messageOf}
 use Rattle.demands.specs.Lawful.{Valued, saidIn, Lawful}
-use Rattle.demands.proofs.Joins.{Whole, lines-joined, passes-joined}
+use Rattle.lines.proofs.Joins.{Whole, lines-joined, passes-joined}
 use Rattle.demands.proofs.Holds.{no-length, allBelow, all-at, not-header}
 use Rattle.demands.proofs.Accepting.{accepted-line, lawful-accepted, body-taken, record-said}
 

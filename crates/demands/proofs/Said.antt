@@ -10,6 +10,7 @@ use lib.ListN.{length, drop}
 use lib.Seq.{drop-nil}
 use borrow.Author.Tests.{eqb-true, eqb-false, eq-eqb, not-true}
 use Rattle.text.specs.Bytes.{bytes, begins, same}
+use Rattle.text.proofs.Bools.{is-false, or-case, or-one, or-two, or-left, or-right}
 use Rattle.text.proofs.Laws.{and-left, and-right}
 use Rattle.forms.specs.Forms.{valueNumber, formNumber, unless, isCode, isWord, wordAt}
 use Rattle.lines.specs.Verdicts.{refused, pass, then}
@@ -17,7 +18,6 @@ use Rattle.lines.proofs.Laws.{then-zero}
 use Rattle.sheets.specs.Trees.{Tree}
 use Rattle.sheets.specs.Sheets.{Entry, edge, held, linesIn, takenIn, has, Sheet}
 use Rattle.sheets.specs.Filled.{some, valueIn}
-use Rattle.sheets.proofs.Small.{is-false, or-case, or-one, or-two, or-left, or-right}
 use Rattle.sheets.proofs.Checks.{slotsOf, memberSlots, ownSlots, fieldSlots, full, mustSlots, firstSlots}
 use Rattle.sheets.proofs.Once.{slotsHeld, Once, inside, outside, comes-once}
 use Rattle.sheets.proofs.Order.{value-absent}

@@ -12,6 +12,7 @@ use Rattle.text.specs.Bytes.{bytes, same}
 use Rattle.text.specs.Classes.{isBetween, inClass, isC, isUpper, isDigit, allIn}
 use Rattle.text.specs.declared.Class.the-variants.{C}
 use Rattle.text.specs.Texts.{contents}
+use Rattle.text.proofs.Bools.{of-both, or-none, or-left, or-right}
 use Rattle.text.proofs.Laws.{and-left, and-right, and-both, in-form-facts}
 use Rattle.text.proofs.Printed.{printed, printed-append}
 use Rattle.forms.specs.Forms.{Slot, other}
@@ -21,7 +22,6 @@ use Rattle.sheets.specs.Trees.{Field, Member, Tree, last, line, block, group}
 use Rattle.sheets.specs.Sheets.{Entry, edge, held, lineOf, linesIn}
 use Rattle.sheets.specs.Filled.{some, anyIn, filledFields, filledMembers, filled}
 use Rattle.sheets.specs.Plain.{anyLine}
-use Rattle.sheets.proofs.Small.{of-both, or-none, or-left, or-right}
 use Rattle.sheets.proofs.Order.{lines-both}
 use Rattle.sheets.proofs.Ends.{lastLine, filled-ends}
 use Rattle.table.specs.Table.{slot, slots, lines, slotOf, fixedOf}
@@ -34,7 +34,7 @@ use Rattle.values.proofs.Printed.{value-printed}
 use Rattle.judge.specs.Judging.{judgeOf}
 use Rattle.judge.proofs.Laws.{judge-zero}
 use Rattle.message.specs.Messages.{behindKey, headerOf, linesFor}
-use Rattle.demands.proofs.Joins.{allPrintable, printable-append, Whole}
+use Rattle.lines.proofs.Joins.{allPrintable, printable-append, Whole}
 use Rattle.demands.proofs.Codes.{code-same}
 use Rattle.demands.proofs.Holds.{allBelow, all-at}
 

@@ -8,6 +8,7 @@ use mathlib.Core.List.{List, [], _∷_, _++_, map}
 use mathlib.Core.Logic.{_↔_, _⊎_}
 use lib.ListN.{length}
 use Rattle.text.specs.Copy.{over}
+use Rattle.pieces.specs.Pieces.{pieces, together}
 use Rattle.trade.specs.Records.{tradeOf}
 use Rattle.trade.specs.declared.Kind.{Kind}
 use Rattle.trade.specs.declared.Trade.{Trade}
@@ -17,7 +18,6 @@ use Rattle.message.specs.Messages.{messageOf}
 use Rattle.message.specs.Plain.{plainOf}
 use Rattle.message.specs.Writing.{writeNumber, writeLength, writtenOver, writable}
 use Rattle.demands.specs.Lawful.{saidIn, Lawful}
-use Rattle.demands.specs.Pieces.{pieces, together}
 
 abbrev pub Accepted : List ℕ → Type 0
 Accepted m = readOf m .number ≡ 0

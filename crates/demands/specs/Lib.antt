@@ -1,4 +1,3 @@
 pub mod Lawful
-pub mod Pieces
 pub mod Demands
 pub mod Answers

@@ -14,12 +14,12 @@ use lib.Seq.{drop-drop}
 use borrow.Author.Tests.{ne-eqb, eqb-true, leb-true}
 use Rattle.text.specs.Bytes.{bytes, begins}
 use Rattle.text.specs.Classes.{isBetween}
+use Rattle.text.proofs.Bools.{is-false, of-both, or-one, or-left, or-right, or-case}
 use Rattle.text.proofs.Laws.{and-left, and-right}
 use Rattle.search.specs.Search.{noLine, takenFor, spanFrom}
 use Rattle.search.proofs.Laws.{Stood, found-stood, span-part}
 use Rattle.sheets.specs.Sheets.{Entry, edge, held, come, has, takenIn as takenOf}
 use Rattle.sheets.specs.Filled.{valueIn}
-use Rattle.sheets.proofs.Small.{is-false, or-one, or-left, or-right, or-case}
 use Rattle.sheets.proofs.Emits.{come-more}
 use Rattle.sheets.proofs.Checks.{mustSlots, firstSlots}
 use Rattle.sheets.proofs.Once.{slotsHeld}

@@ -5,12 +5,13 @@ use mathlib.Core.Path.{_≡_, refl, sym, ap, _∙_}
 use mathlib.Core.Bool.{Bool, true, false, _||_, cond, or-assoc, or-false}
 use mathlib.Core.List.{List, [], _∷_, _++_, append-assoc, append-nil}
 use Rattle.text.specs.Bytes.{bytes}
+use Rattle.lines.specs.Lines.{joined}
 use Rattle.layout.specs.Rows.{Row, field, mark, back, textAt, rowsOf}
 use Rattle.sheets.specs.Trees.{Field, Member, Tree, last, line, block, group, fieldRows, memberRows, rowsIn, tableOf}
 use Rattle.sheets.specs.Sheets.{Entry, edge, held, lineOf, linesIn}
 use Rattle.sheets.specs.Filled.{some, anyField, anyMember, anyIn, filledFields, filledMembers, filled}
 use Rattle.sheets.proofs.Order.{lines-both}
-use Rattle.fill.specs.Filling.{joined, ended, heldParts, lower, deeper, hasValue, anyRows, stands, opener, puts, walk, Lent, frontAt, valueAt, behindAt, partsAt, filling}
+use Rattle.fill.specs.Filling.{ended, heldParts, lower, deeper, hasValue, anyRows, stands, opener, puts, walk, Lent, frontAt, valueAt, behindAt, partsAt, filling}
 use Rattle.fill.specs.Runs.{flat}
 use Rattle.fill.proofs.Runs.{flat-append}
 

@@ -11,11 +11,6 @@ use Rattle.forms.specs.Slots.{slotAt}
 use Rattle.layout.specs.Rows.{Row, field, opens, closes, many, mark, back, ends, textAt, rowsOf}
 use Rattle.sheets.specs.Filled.{some}
 
--- every line ends in CR LF
-unfoldable pub joined : List (List ℕ) → List ℕ
-joined [] = []
-joined (l ∷ ls) = l ++ (bytes "\r\n" ++ joined ls)
-
 -- ---- what stands behind the text of a slot
 
 -- what is lent: the bytes of the slots, with the fixed text of each; the slots that the layout makes optional; and a text in which

@@ -8,6 +8,7 @@ use lib.Dec.{leb, ltb, eqb}
 use lib.ListN.{length, drop}
 use borrow.Author.Tests.{leb-true}
 use Rattle.text.specs.Bytes.{bytes, begins, same}
+use Rattle.text.proofs.Bools.{of-both}
 use Rattle.lines.specs.Verdicts.{refused, pass, then}
 use Rattle.lines.specs.Lines.{linesOf, ended, mayStand, sizePass, bytePass, endPass, linesPass}
 use Rattle.lines.specs.declared.Verdict.{Verdict}
@@ -24,7 +25,6 @@ use Rattle.layout.specs.declared.Place.{Place}
 use Rattle.layout.specs.declared.Step.{Step}
 use Rattle.layout.specs.declared.Look.{Look}
 use Rattle.layout.specs.declared.Look.the-variants.{Decided, Further}
-use Rattle.sheets.proofs.Small.{of-both}
 use Rattle.table.specs.Table.{table, slotOf}
 use Rattle.walk.specs.Walk.{valueVerdict, valuesPass, bodyPass}
 use Rattle.forms.specs.Narrative.{isNarrative}
@@ -38,9 +38,10 @@ use Rattle.message.specs.Writing.{writeNumber}
 use Rattle.mt515.specs.Body.{lineOf, headerVerdict, headerPass, bodyOf}
 use Rattle.mt515.specs.Reading.{reading, verdictOf, readOf}
 use Rattle.plain.specs.Asking.{askVerdict, roomPass}
-use Rattle.demands.specs.Pieces.{pieceOf}
-use Rattle.batch.specs.Batch.{turnOf, blankReading, saysOf, nextOf}
-use Rattle.batch.specs.declared.Turn.{Turn as Batch-turn}
+use Rattle.pieces.specs.declared.Turn.{Turn as Batch-turn}
+use Rattle.pieces.specs.Pieces.{pieceOf}
+use Rattle.pieces.specs.Turns.{turnOf}
+use Rattle.batch.specs.Batch.{blankReading, saysOf, nextOf}
 use Rattle.gateway.specs.Numbers.{Numbers}
 
 -- ---- a number up to another, and what holds of either of two

@@ -2,13 +2,13 @@
 -- write at most 20 and a batch's message at most 21; so each of them is one byte of the gateway's.
 use Prim.Native.Nat.{ℕ, _≤_}
 use mathlib.Core.List.{List}
+use Rattle.pieces.specs.declared.Turn.{Turn}
+use Rattle.pieces.specs.declared.Turn.the-variants.{Message, Done, Past}
 use Rattle.trade.specs.declared.Trade.{Trade}
 use Rattle.mt515.specs.Reading.{readOf}
 use Rattle.message.specs.Writing.{writeNumber}
 use Rattle.plain.specs.Asking.{askVerdict}
 use Rattle.batch.specs.Batch.{nextOf}
-use Rattle.batch.specs.declared.Turn.{Turn}
-use Rattle.batch.specs.declared.Turn.the-variants.{Message, Done, Past}
 
 -- what stands at a position of a batch: a message, the end, or nothing
 unfoldable pub turnNumber : Turn → ℕ

@@ -2,7 +2,7 @@
 // them.
 //
 // What is right stands in the specs of the functions that the entries call; an entry only hands their answer out.
-use batch::Turn;
+use pieces::Turn;
 ghost use mathlib.Core.Path.{_≡_};
 ghost use lib.ListN.{length};
 ghost use Rattle.mt515.specs.Reading.{readOf};

@@ -3,7 +3,7 @@
 -- Assumes nothing.
 use Prim.Native.Nat.{ℕ, zero, suc, _+_, _*_, _/_, _%_, _≤_, _<_}
 use mathlib.Core.Path.{_≡_, refl, ap, _∙_}
-use mathlib.Core.Bool.{Bool, true, false, _&&_, _||_, cond}
+use mathlib.Core.Bool.{Bool, true, false, _&&_, _||_}
 use mathlib.Core.List.{List, [], _∷_, map}
 use native.Mathlib.Nat.{add-zero}
 use native.Mathlib.Omega.{arith}
@@ -12,6 +12,7 @@ use lib.ListN.{length, take, drop, getD, length-append, drop-of-length-le}
 use lib.Seq.{getD-drop, getD-take, take-take}
 use borrow.Author.Tests.{lt-ltb, le-ltb}
 use Rattle.text.specs.Bytes.{begins, same, parts}
+use Rattle.text.proofs.Bools.{of-both}
 use Rattle.text.proofs.Laws.{begins-is, parts-from, length-parts}
 use Rattle.layout.specs.Rows.{Row, field, opens, closes, many, mark, back, ends, rowOf, keyOf, textAt, firstRow, rowsOf}
 use Rattle.layout.specs.Layout.{fits, lacks, isSeen, against, beneath, look, onward, scan, stepOf, marked, behind, runOf}
@@ -71,11 +72,6 @@ unfolding runOf
 run-next table here seen n l ls = refl
 
 -- ---- a line is at least as long as the text of the slot that it is taken for
-
--- a choice has what both its sides have
-pub of-both : {A : Type 0} (P : A → Type 0) (b : Bool) {x y : A} → (b ≡ true → P x) → (b ≡ false → P y) → P (cond b x y)
-of-both P true f g = f refl
-of-both P false f g = g refl
 
 -- what a look takes of a line is in the line, and it goes at most so deep
 Bound : ℕ → ℕ → Look → Type 0

@@ -13,6 +13,7 @@ use lib.ListN.{length, take, drop, length-take, length-drop, drop-of-length-le}
 use lib.Seq.{take-nil, take-take, drop-drop, drop-length}
 use borrow.Author.Tests.{ltb-true, ltb-false, leb-true, leb-false, eq-eqb, ne-eqb, eqb-true}
 use Rattle.text.specs.Bytes.{bytes, same, before}
+use Rattle.text.specs.Classes.{isBetween}
 use Rattle.text.proofs.Laws.{and-left, and-right, before-front, before-length, same-eq}
 use Rattle.lines.specs.Verdicts.{refused, pass, then}
 use Rattle.lines.specs.Lines.{inFront, cutLines, bare, linesOf, ended, sizePass, bytePass, endPass, linesPass, lineAt, startBehind, endOf}
@@ -67,6 +68,20 @@ bare-front (b ∷ c ∷ s) = ap (λ (l : List ℕ). b ∷ l) (bare-front (c ∷ 
 
 pub bare-length : (s : List ℕ) → length (bare s) ≤ length s
 bare-length s = let e = ap length (bare-front s) in let l = length-take (length (bare s)) s in omega arith
+
+-- a byte from 20 to 7E hex is part of no ending
+module _ (b : ℕ) (e : isBetween 32 126 b ≡ true) where
+  print-low : 32 ≤ b
+  unfolding isBetween
+  print-low = leb-true _ _ (and-left (leb 32 b) _ e)
+
+  pub print-lf : eqb b 10 ≡ false
+  print-lf = let l = print-low in ne-eqb b 10 (λ x. omega (arith, l, x))
+
+  pub bare-print : (s : List ℕ) → bare (b ∷ s) ≡ b ∷ bare s
+  unfolding bare
+  bare-print [] = let l = print-low in rw (ne-eqb b 13 (λ x. omega (arith, l, x)))
+  bare-print (c ∷ s) = refl
 
 -- ---- the lines of a message, from the front
 

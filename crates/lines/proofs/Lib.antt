@@ -1,4 +1,5 @@
 pub mod Laws
 pub mod Lined
+pub mod Joins
 pub mod Turns
 pub mod Cases

@@ -11,14 +11,14 @@ use native.Mathlib.Omega.{arith}
 use lib.Dec.{leb, ltb, eqb, eqb·suc-zero}
 use lib.ListN.{length, take, drop, getD, length-drop, drop-of-length-le}
 use lib.Seq.{getD-drop, drop-drop, length-take-le}
-use borrow.Author.Tests.{ltb-true, ltb-false, leb-true, le-leb, lt-leb, eq-eqb, ne-eqb, eqb-true}
+use borrow.Author.Tests.{ltb-true, ltb-false, le-leb, lt-leb, eq-eqb, ne-eqb, eqb-true}
 use Rattle.text.specs.Bytes.{bytes, begins, same, before}
 use Rattle.text.specs.Classes.{isBetween}
 use Rattle.text.proofs.Laws.{and-left, and-right, begins-is, before-front, before-length, rest-of}
 use Rattle.lines.specs.Verdicts.{refused, pass, then}
 use Rattle.lines.specs.Lines.{bare, linesOf, ended, sizePass, mayStand, bytePass, endPass, linesPass, lineAt}
 use Rattle.lines.specs.declared.Verdict.{Verdict}
-use Rattle.lines.proofs.Laws.{bare-length, lines-step, lines-behind}
+use Rattle.lines.proofs.Laws.{bare-length, print-lf, bare-print, lines-step, lines-behind}
 
 -- ---- a line's CR
 
@@ -122,23 +122,10 @@ module _ (s : List ℕ) (i : ℕ) (short : i ≤ length s) (so-far : Prints s i)
   pub text-done : length s ≤ i → Front s i
   text-done h = (short, so-far, λ l. let z : ⊥ = omega arith in absurd z)
 
--- such a byte is part of no ending, and may stand anywhere
-module _ (b : ℕ) (e : isBetween 32 126 b ≡ true) where
-  print-low : 32 ≤ b
-  unfolding isBetween
-  print-low = leb-true _ _ (and-left (leb 32 b) _ e)
-
-  print-lf : eqb b 10 ≡ false
-  print-lf = let l = print-low in ne-eqb b 10 (λ x. omega (arith, l, x))
-
-  bare-print : (s : List ℕ) → bare (b ∷ s) ≡ b ∷ bare s
-  unfolding bare
-  bare-print [] = let l = print-low in rw (ne-eqb b 13 (λ x. omega (arith, l, x)))
-  bare-print (c ∷ s) = refl
-
-  print-stands : (s : List ℕ) → mayStand b s ≡ true
-  unfolding mayStand
-  print-stands s = rw e
+-- such a byte may stand anywhere
+print-stands : (b : ℕ) → isBetween 32 126 b ≡ true → (s : List ℕ) → mayStand b s ≡ true
+unfolding mayStand
+print-stands b e s = rw e
 
 tail-prints : (b n : ℕ) (s : List ℕ) → Prints (b ∷ s) (suc n) → Prints s n
 tail-prints b n s p j h = p (suc j) (omega arith)

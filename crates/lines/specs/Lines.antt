@@ -2,7 +2,7 @@
 -- line of a message is `-`, and it too has its ending. And the numbers 1, 2 and 3.
 use Prim.Native.Nat.{ℕ, zero, suc, _+_, min}
 use mathlib.Core.Bool.{Bool, false, _&&_, _||_, cond}
-use mathlib.Core.List.{List, [], _∷_, map}
+use mathlib.Core.List.{List, [], _∷_, _++_, map}
 use lib.Dec.{leb, eqb}
 use lib.ListN.{length, drop}
 use Rattle.text.specs.Bytes.{bytes, begins, same, before}
@@ -37,6 +37,13 @@ unfoldable pub ended : List ℕ → Bool
 ended [] = false
 ended (b ∷ []) = eqb b 10
 ended (b ∷ c ∷ s) = ended (c ∷ s)
+
+-- ---- lines made into a message
+
+-- every line ends in CR LF
+unfoldable pub joined : List (List ℕ) → List ℕ
+joined [] = []
+joined (l ∷ ls) = l ++ (bytes "\r\n" ++ joined ls)
 
 -- ---- 1: empty, or over 4,096 bytes
 

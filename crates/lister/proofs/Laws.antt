@@ -1,24 +1,21 @@
 -- The next position of a batch is farther on, and within it; a row that was put ends within its buffer. Assumes nothing.
-use Prim.Native.Nat.{ℕ, suc, _+_, _≤_, _<_}
+use Prim.Native.Nat.{ℕ, _+_, _≤_, _<_}
 use mathlib.Core.Path.{_≡_, sym, ap, _∙_}
 use mathlib.Core.List.{List}
 use native.Mathlib.Omega.{arith}
-use lib.ListN.{length, drop, getD}
-use lib.Seq.{drop-cons}
+use lib.ListN.{length, drop}
 use Rattle.text.specs.Copy.{placed, after}
 use Rattle.text.proofs.Laws.{after-within, length-placed}
-use Rattle.demands.specs.Pieces.{pieceOf}
-use Rattle.demands.proofs.Pieces.{piece-some}
+use Rattle.pieces.specs.Pieces.{pieceOf}
+use Rattle.pieces.proofs.Laws.{piece-farther}
 use Rattle.batch.specs.Batch.{nextOf}
 use Rattle.batch.specs.declared.Answer.{Answer}
-use Rattle.batch.proofs.Turns.{piece-within, next-piece}
+use Rattle.batch.proofs.Turns.{next-piece}
 
 pub farther : (batch : List ℕ) (position : ℕ) (a : Answer) → a ≡ nextOf batch position → position < length batch → (position < a .position) × (a .position ≤ length batch)
 farther batch position a e h =
     let p : a .position ≡ position + length (pieceOf (drop position batch)) = ap (λ (x : Answer). x .position) (e ∙ sym (next-piece batch position h)) in
-    let w = piece-within batch position (a .position) p (omega arith) in
-    let some : 1 ≤ length (pieceOf (drop position batch)) = rw (drop-cons batch position 0 h) (piece-some (getD batch position 0) (drop (suc position) batch)) in
-    (omega arith, omega arith)
+    piece-farther batch position (a .position) p h
 
 pub ends-within : (buf s : List ℕ) {r : ℕ} {now : List ℕ} → r ≡ after buf 0 s → now ≡ placed buf 0 s → (r ≤ length now) × (length now ≡ length buf)
 ends-within buf s e f =

@@ -2,7 +2,6 @@
 -- Assumes nothing.
 use mathlib.Core.Path.{refl}
 use Rattle.message.specs.Cases.{broadest, messages, writes, Answered}
-use Rattle.fill.specs.Filling.{joined}
 use Rattle.message.specs.Messages.{behindKey, headerOf, linesFor, messageOf}
 use Rattle.message.specs.Writing.{writeNumber, writeLength}
 use Rattle.values.specs.Values.{kindWord, sideWord, serviceWord, periodText, reasonText, narrative, values, valueOf, optional}
@@ -14,6 +13,7 @@ use Rattle.sheets.specs.Sheets.{lineOf, linesIn}
 use Rattle.sheets.specs.Filled.{some, anyField, anyMember, anyIn, filledFields, filledMembers, filled}
 use Rattle.values.specs.Cases.{b}
 use Rattle.trade.specs.Records.{nobody, never, nought, blankTrade}
+use Rattle.lines.specs.Lines.{joined}
 use Rattle.lines.specs.Verdicts.{refused, pass, then}
 use Rattle.kinds.specs.Kinds.{other, own, contra, stray, functionOf, lacksField, tddkOnly, tddkNever, hasForbidden, when, recordPass}
 use Rattle.calendar.specs.Dates.{year, month, day, leap, lengths, monthLength, isDate, isTime, earlier, isMoment, dateText, momentText}

@@ -12,7 +12,9 @@ use borrow.Author.Tests.{eqb-true, eqb-false, ltb-false}
 use Rattle.text.specs.Bytes.{bytes}
 use Rattle.text.specs.Texts.{contents}
 use Rattle.text.specs.declared.Text.{Text}
+use Rattle.text.proofs.Bools.{or-left, or-right}
 use Rattle.text.proofs.Laws.{and-right}
+use Rattle.lines.specs.Lines.{joined}
 use Rattle.trade.specs.declared.Kind.{Kind}
 use Rattle.trade.specs.declared.Side.{Side}
 use Rattle.trade.specs.declared.Service.{Service}
@@ -22,7 +24,7 @@ use Rattle.kinds.specs.Kinds.{present, hasDays, other, own, contra, stray, tddk
 use Rattle.kinds.proofs.Laws.{passes}
 use Rattle.sheets.specs.Sheets.{lineOf, linesIn}
 use Rattle.sheets.specs.Filled.{some, anyField, anyMember, anyIn, filledFields, filledMembers, filled}
-use Rattle.fill.specs.Filling.{joined, isAny}
+use Rattle.fill.specs.Filling.{isAny}
 use Rattle.table.specs.Table.{slots, slotOf, fixedOf}
 use Rattle.table.specs.Tree.{general, pool, details, tree}
 use Rattle.values.specs.Values.{serviceWord, periodText, reasonText, narrative, values, valueOf, optional}
@@ -127,14 +129,6 @@ header-grows p q ls most a b h =
     omega arith
 
 -- ---- what is not there has no bytes
-
-or-left : (a b : Bool) → (a || b) ≡ false → a ≡ false
-or-left true b e = e
-or-left false b e = refl
-
-or-right : (a b : Bool) → (a || b) ≡ false → b ≡ false
-or-right true b e = absurd (true≢false e)
-or-right false b e = e
 
 no-text : (x : Text) → present x ≡ false → length (contents x) ≤ 0
 unfolding contents

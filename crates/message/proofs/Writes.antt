@@ -12,6 +12,7 @@ use Rattle.text.specs.Bytes.{bytes}
 use Rattle.text.specs.Texts.{contents}
 use Rattle.text.specs.Copy.{fits, placed}
 use Rattle.text.proofs.Laws.{rest-of, length-placed}
+use Rattle.lines.specs.Lines.{joined}
 use Rattle.stretches.specs.Stretches.{stretchOf}
 use Rattle.forms.specs.Forms.{Slot}
 use Rattle.forms.proofs.Tables.{places as slotsIn}
@@ -20,7 +21,7 @@ use Rattle.trade.specs.declared.Trade.{Trade}
 use Rattle.sheets.specs.Sheets.{linesIn}
 use Rattle.sheets.specs.Filled.{filled}
 use Rattle.fill.specs.Runs.{overRun, flat}
-use Rattle.fill.specs.Filling.{joined, lent, isAny, frontOf, behindAt, filling}
+use Rattle.fill.specs.Filling.{lent, isAny, frontOf, behindAt, filling}
 use Rattle.fill.proofs.Runs.{Put, Run, then, flat-append, measured, in-front, whole}
 use Rattle.fill.proofs.Walks.{filling-is}
 use Rattle.table.specs.Table.{table, lines, fixedOf}

@@ -6,8 +6,8 @@ use lib.Dec.{eqb}
 use lib.ListN.{length}
 use Rattle.text.specs.Bytes.{bytes}
 use Rattle.text.specs.Texts.{contents}
+use Rattle.lines.specs.Lines.{joined}
 use Rattle.trade.specs.declared.Trade.{Trade}
-use Rattle.fill.specs.Filling.{joined}
 use Rattle.sheets.specs.Sheets.{linesIn}
 use Rattle.sheets.specs.Filled.{filled}
 use Rattle.table.specs.Table.{fixedOf}

@@ -7,10 +7,9 @@ use mathlib.Core.Bool.{cond}
 use mathlib.Core.List.{List, [], _∷_, _++_, map}
 use lib.ListN.{length, drop}
 use Rattle.text.specs.Bytes.{bytes, begins}
-use Rattle.lines.specs.Lines.{linesOf}
+use Rattle.lines.specs.Lines.{linesOf, joined}
 use Rattle.amount.specs.Amounts.{tidy}
 use Rattle.sheets.specs.Plain.{Group, inOrder}
-use Rattle.fill.specs.Filling.{joined}
 
 -- LINK blocks stand as MAST, PREV, LIST
 unfoldable pub links : Group

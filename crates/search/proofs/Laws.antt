@@ -17,7 +17,8 @@ use Rattle.layout.specs.Rows.{Row}
 use Rattle.layout.specs.Layout.{Taken, Run, refusedAt, taken, stepOf, runOf, behind, withTaken, marked, layoutOf}
 use Rattle.layout.specs.declared.Place.{Place}
 use Rattle.layout.specs.declared.Step.{Step}
-use Rattle.layout.proofs.Laws.{of-both, takes-within}
+use Rattle.text.proofs.Bools.{of-both}
+use Rattle.layout.proofs.Laws.{takes-within}
 use Rattle.search.specs.Search.{noLine, takenFor, foundAt, foundIn, foundOf, spanFrom, spanOf}
 use Rattle.search.specs.declared.Span.{Span}
 

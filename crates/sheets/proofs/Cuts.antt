@@ -6,9 +6,11 @@ use mathlib.Core.Bool.{Bool, true, false, _&&_, _||_, not, cond, true≢false}
 use mathlib.Core.List.{List, [], _∷_, _++_, append-assoc, append-nil}
 use lib.Dec.{eqb, leb}
 use lib.ListN.{length, drop}
+use lib.Seq.{drop-append-seam}
 use borrow.Author.Tests.{ne-eqb, leb-true, not-true}
 use native.Mathlib.Nat.{not-suc-le-zero}
 use Rattle.text.specs.Bytes.{begins, same}
+use Rattle.text.proofs.Bools.{of-both}
 use Rattle.text.proofs.Laws.{and-left, and-right, and-both, same-eq, begins-is}
 use Rattle.layout.specs.Layout.{Taken, Run, refusedAt, taken, withTaken, layoutOf}
 use Rattle.sheets.specs.Trees.{Field, Member, Tree, last, line, block, group, chain, tableOf}
@@ -17,7 +19,6 @@ use Rattle.sheets.proofs.Checks.{goodSlot, goodFields, goodMembers, goo
 use Rattle.sheets.proofs.Machine.{Spot, within, first, over, Move, no, go, fit, next, seek, laterField, tell, moveOf, following, walk}
 use Rattle.sheets.proofs.Walk.{goodSpot, goodTrees, GoodMove, good-move, layout-walk}
 use Rattle.sheets.proofs.Accepts.{come-append, not-zero}
-use Rattle.sheets.proofs.Small.{of-both, drop-append}
 
 -- ---- sheets of what is left
 
@@ -341,7 +342,7 @@ module _ (slots l : List ℕ) (n : ℕ) (spot : Spot) (ts : List Tree) (ls : Lis
   unfolding Cut Stands linesIn takenIn lineOf
   cut-held s w us es (edge o) z e i h q r t = absurd (true≢false (rw i at z))
   cut-held s w us es (held j k v) z e i h q r t =
-      (held j k v ∷ es, (rw (e, q)), t ∙ (rw (r, i .0, i .1, ← e, drop-append k v)), h)
+      (held j k v ∷ es, (rw (e, q)), t ∙ (rw (r, i .0, i .1, ← e, drop-append-seam k v)), h)
 
   cut-line : (move : Move) → Found slots l (LaidFrom slots spot ts) move
       → ((s w : ℕ) (spot' : Spot) (ts' : List Tree) (us : List Taken) → move ≡ go s w spot' ts'

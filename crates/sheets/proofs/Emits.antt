@@ -6,6 +6,7 @@ use mathlib.Core.Bool.{Bool, true, false, _&&_, _||_, not, cond, true≢false}
 use mathlib.Core.List.{List, [], _∷_, _++_, append-assoc}
 use lib.Dec.{eqb}
 use borrow.Author.Tests.{eqb-true, eq-eqb, not-true}
+use Rattle.text.proofs.Bools.{or-two, or-left, or-right, of-both}
 use Rattle.text.proofs.Laws.{and-left, and-right, and-both}
 use Rattle.layout.specs.Layout.{taken, layoutOf}
 use Rattle.sheets.specs.Trees.{Field, Member, Tree, last, line, block, group, chain, tableOf}
@@ -13,7 +14,6 @@ use Rattle.sheets.specs.Sheets.{Entry, edge, held, linesIn, takenIn, com
 use Rattle.sheets.specs.Filled.{some, valueIn, anyField, anyMember, anyIn, filledFields, filledMembers, filled}
 use Rattle.sheets.proofs.Checks.{goodTree, apart, withFields, withMembers, withTree, onceMembers, once, allMembers, wholeMembers, complete}
 use Rattle.sheets.proofs.Accepts.{come-append, reads}
-use Rattle.sheets.proofs.Small.{or-two, or-left, or-right, of-both}
 
 -- ---- the slots that come, beside all that might: a relation of the two that holds at the start holds at the end
 

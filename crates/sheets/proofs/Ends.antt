@@ -5,12 +5,12 @@ use mathlib.Core.Path.{_≡_, refl, ap}
 use mathlib.Core.Bool.{true, false, _||_, not}
 use mathlib.Core.List.{List, [], _∷_, _++_}
 use Rattle.text.specs.Bytes.{begins, same}
+use Rattle.text.proofs.Bools.{of-both, or-none, or-left, or-right}
 use Rattle.text.proofs.Laws.{and-left, and-right}
 use Rattle.sheets.specs.Trees.{Tree, last, line, block, group}
 use Rattle.sheets.specs.Sheets.{Entry, edge, held, lineOf, linesIn}
 use Rattle.sheets.specs.Filled.{some, anyIn, filledMembers, filled}
 use Rattle.sheets.specs.Plain.{anyLine}
-use Rattle.sheets.proofs.Small.{of-both, or-none, or-left, or-right}
 use Rattle.sheets.proofs.Checks.{freeMembers, free}
 use Rattle.sheets.proofs.Order.{key-misses, line-misses, members-misses, filled-misses}
 

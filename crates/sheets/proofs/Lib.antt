@@ -1,4 +1,3 @@
-pub mod Small
 pub mod Checks
 pub mod Machine
 pub mod Walk

@@ -8,6 +8,7 @@ use mathlib.Core.Logic.{_⊎_, inl, inr, ⊎-elim}
 use lib.Dec.{eqb}
 use borrow.Author.Tests.{eqb-true, eq-eqb, not-true}
 use Rattle.text.specs.Bytes.{begins, same}
+use Rattle.text.proofs.Bools.{is-false, or-case, or-one, or-two, or-none, or-left, or-right, of-both}
 use Rattle.text.proofs.Laws.{and-left, and-right, same-refl, same-eq, begins-append}
 use Rattle.sheets.specs.Trees.{Field, Member, Tree, last, line, block, group, chain}
 use Rattle.sheets.specs.Sheets.{Entry, edge, held, lineOf, linesIn, come, has, Among, front, later, Laid, shut, given, absent, opened, passed, member, done, Sheet}
@@ -17,7 +18,6 @@ use Rattle.sheets.proofs.Checks.{clash, starts, whole, fitsLine, noneOf
 use Rattle.sheets.proofs.Accepts.{clash-apart, none-among, lines-append}
 use Rattle.sheets.proofs.Once.{has-append, apart-lists, slotsHeld, has-held, among-slots, chain-slots, inside, outside, Disjoint, one-or-apart, own-held, own-distinct, not-again, comes-once, own-values}
 use Rattle.sheets.proofs.Emits.{has-front, come-more, Fits}
-use Rattle.sheets.proofs.Small.{is-false, or-case, or-one, or-two, or-none, or-left, or-right, of-both}
 
 -- ---- picking lines
 

@@ -5,12 +5,12 @@ use mathlib.Core.Path.{_≡_, refl, sym, ap, _∙_}
 use mathlib.Core.Bool.{Bool, true, false, _&&_, _||_, not, cond, true≢false}
 use mathlib.Core.List.{List, [], _∷_, _++_}
 use borrow.Author.Tests.{not-true}
+use Rattle.text.proofs.Bools.{or-case, of-both}
 use Rattle.text.proofs.Laws.{and-left, and-right, and-both}
 use Rattle.sheets.specs.Trees.{Field, Member, Tree, last, line, block, group}
 use Rattle.sheets.specs.Sheets.{Entry, edge, held}
 use Rattle.sheets.specs.Filled.{some, anyIn, filledFields, filledMembers, filled}
 use Rattle.sheets.proofs.Checks.{full, solidFields, solidMembers, solid}
-use Rattle.sheets.proofs.Small.{or-case, of-both}
 
 full-append : (es ds : List Entry) → full es ≡ true → full ds ≡ true → full (es ++ ds) ≡ true
 unfolding full

@@ -1,3 +1,5 @@
+pub mod Bools
 pub mod Laws
+pub mod Printed
 pub mod Turns
 pub mod Printed

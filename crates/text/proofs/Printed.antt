@@ -1,4 +1,4 @@
--- What callers cite: bytes from 20 to 7E hex, which hold no line ending.
+-- What callers cite of bytes that can be printed: a text of bytes from 20 to 7E hex holds no line ending, and digits and c are such bytes.
 -- Assumes nothing.
 use Prim.Native.Nat.{ℕ, _≤_}
 use mathlib.Core.Path.{_≡_, refl}
@@ -11,6 +11,7 @@ use Rattle.text.specs.Classes.{isBetween, isDigit, isUpper, isC, inClass
 use Rattle.text.specs.declared.Class.the-variants.{C, Digit}
 use Rattle.text.proofs.Laws.{and-left, and-right, and-both}
 
+-- every byte is from 20 to 7E hex
 unfoldable pub printed : List ℕ → Bool
 printed [] = true
 printed (b ∷ s) = isBetween 32 126 b && printed s

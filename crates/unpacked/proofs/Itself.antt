@@ -10,6 +10,7 @@ use lib.ListN.{getD}
 use borrow.Author.Tests.{leb-true, leb-false, le-leb, eqb-true}
 use Rattle.text.specs.Texts.{inForm as textForm}
 use Rattle.text.specs.declared.Text.{Text}
+use Rattle.text.proofs.Bools.{or-case}
 use Rattle.text.proofs.Laws.{and-left, and-right, and-both, in-form-facts}
 use Rattle.calendar.specs.Dates.{isDate, isTime, isMoment}
 use Rattle.calendar.specs.declared.Moment.{Moment}
@@ -23,7 +24,6 @@ use Rattle.judge.proofs.Laws.{judge-zero}
 use Rattle.message.specs.Writing.{writable}
 use Rattle.message.proofs.Writes.{writable-judged}
 use Rattle.packed.specs.Packed.{atMost, periodByte, codes, texts, textBytes, momentNumber, numbers, packedOf}
-use Rattle.sheets.proofs.Small.{or-case}
 use Rattle.packed.proofs.Laws.{at-most-in, at-most-out, at-most-le}
 use Rattle.unpacked.specs.Unpacked.{momentFrom, unpackedOf}
 use Rattle.unpacked.specs.Back.{textFits, periodFits, momentFits, fits, textHeld, held, Itself}

@@ -9,6 +9,7 @@ use lib.Dec.{leb, eqb}
 use lib.ListN.{length, take, drop, getD, set, replicate, length-take, length-set, drop-of-length-le}
 use lib.Seq.{drop-drop, getD-set-same, getD-set-other}
 use borrow.Author.Tests.{le-leb, leb-false, eqb-true, eqb-false}
+use Rattle.text.proofs.Bools.{of-both}
 use Rattle.lines.specs.Lines.{linesOf, startBehind, endOf}
 use Rattle.lines.proofs.Laws.{begins, drop-front, Stands, first, stands}
 use Rattle.stretches.specs.Stretches.{between, stretchOf}
@@ -16,7 +17,7 @@ use Rattle.forms.specs.Forms.{Slot}
 use Rattle.layout.specs.Rows.{Row}
 use Rattle.layout.specs.Layout.{Taken, Run, refusedAt, taken, stepOf, runOf, behind, withTaken, marked, layoutOf}
 use Rattle.layout.specs.declared.Place.{Place}
-use Rattle.layout.proofs.Laws.{of-both, takes-within}
+use Rattle.layout.proofs.Laws.{takes-within}
 use Rattle.stretches.specs.Stretches.{slotCount}
 use Rattle.walk.specs.Walk.{takenIn, valueFrom, startsOf, endsOf, walkOf}
 use Rattle.walk.specs.declared.Body.{Body}

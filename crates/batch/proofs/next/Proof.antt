@@ -1,7 +1,8 @@
 -- `batch::next` meets its contract: past the end, at the end, or a piece that is read. Assumes nothing.
 use native.Mathlib.Omega.{arith}
 use borrow.Author.Needs.{needs}
-use Rattle.batch.proofs.Turns.{piece-within, next-message, next-done, next-past}
+use Rattle.pieces.proofs.Laws.{piece-within}
+use Rattle.batch.proofs.Turns.{next-message, next-done, next-past}
 use Rattle.batch.proofs.next.Statement.{statement}
 use Rattle.batch.proofs.next.Tie as tie
 

@@ -8,16 +8,15 @@ use mathlib.Core.List.{List, [], _∷_, _++_, map, append-assoc, append-nil}
 use native.Mathlib.Omega.{arith}
 use lib.Dec.{eqb}
 use lib.ListN.{length}
-use borrow.Author.Tests.{leb-true, le-leb, eqb-true, ne-eqb, not-true}
+use borrow.Author.Tests.{le-leb, eqb-true, not-true}
 use Rattle.text.specs.Bytes.{bytes, begins, same}
 use Rattle.text.specs.Classes.{isBetween}
+use Rattle.text.proofs.Bools.{or-case}
 use Rattle.text.proofs.Laws.{and-left, and-right, and-both}
 use Rattle.text.proofs.Printed.{printed}
 use Rattle.lines.specs.Verdicts.{refused, pass, then}
-use Rattle.lines.specs.Lines.{inFront, cutLines, bare, linesOf, ended, sizePass, mayStand, bytePass, endPass, linesPass}
-use Rattle.lines.proofs.Laws.{plain, Closed, passed}
-use Rattle.fill.specs.Filling.{joined}
-use Rattle.sheets.proofs.Small.{or-case}
+use Rattle.lines.specs.Lines.{inFront, cutLines, bare, linesOf, ended, joined, sizePass, mayStand, bytePass, endPass, linesPass}
+use Rattle.lines.proofs.Laws.{print-lf, bare-print, plain, Closed, passed}
 
 -- ---- lines of 20 to 7E hex
 
@@ -30,18 +29,6 @@ unfolding allPrintable
 printable-append [] ks h k = k
 printable-append (l ∷ ls) ks h k = and-both {a = printed l} (and-left _ (allPrintable ls) h) (printable-append ls ks (and-right (printed l) _ h) k)
 
--- such a byte is neither LF nor CR
-module _ (b : ℕ) (h : isBetween 32 126 b ≡ true) where
-  above : 32 ≤ b
-  unfolding isBetween
-  above = leb-true _ _ (and-left _ _ h)
-
-  not-end : eqb b 10 ≡ false
-  not-end = let a = above in ne-eqb b 10 (λ e. let no : ⊥ = omega arith in no)
-
-  not-cr : eqb b 13 ≡ false
-  not-cr = let a = above in ne-eqb b 13 (λ e. let no : ⊥ = omega arith in no)
-
 -- the first line, its ending, and what stands behind
 joined-front : (l : List ℕ) (ls : List (List ℕ)) (rest : List ℕ) → joined (l ∷ ls) ++ rest ≡ l ++ (13 ∷ 10 ∷ (joined ls ++ rest))
 unfolding joined bytes
@@ -53,7 +40,7 @@ cut-front : (l rest : List ℕ) → printed l ≡ true → cutLines (l ++ (13 �
 unfolding printed cutLines inFront
 cut-front [] rest h = refl
 cut-front (b ∷ l) rest h =
-    rw (not-end b (and-left _ _ h), cut-front l rest (and-right (isBetween 32 126 b) _ h))
+    rw (print-lf b (and-left _ _ h), cut-front l rest (and-right (isBetween 32 126 b) _ h))
 
 bare-cr : (l : List ℕ) → bare (l ++ (13 ∷ [])) ≡ l
 unfolding bare
@@ -79,7 +66,7 @@ bytes-front : (n : ℕ) (l rest : List ℕ) → printed l ≡ true → bytePass 
 unfolding printed bytePass mayStand begins bytes isBetween
 bytes-front n [] rest h = refl
 bytes-front n (b ∷ l) rest h =
-    rw (and-left (isBetween 32 126 b) _ h, not-end b (and-left _ _ h)) (bytes-front n l rest (and-right (isBetween 32 126 b) _ h))
+    rw (and-left (isBetween 32 126 b) _ h, print-lf b (and-left _ _ h)) (bytes-front n l rest (and-right (isBetween 32 126 b) _ h))
 
 pub bytes-joined : (n : ℕ) (ls : List (List ℕ)) → allPrintable ls ≡ true → bytePass n (joined ls) ≡ pass
 unfolding allPrintable joined bytes bytePass
@@ -145,9 +132,8 @@ passes-joined ls w h =
 
 -- one such byte in front of a line, and in front of lines
 bare-more : (b : ℕ) (l : List ℕ) → isBetween 32 126 b ≡ true → printed (bare l) ≡ true → printed (bare (b ∷ l)) ≡ true
-unfolding bare printed
-bare-more b [] h k = rw (not-cr b h, h)
-bare-more b (c ∷ l) h k = and-both h k
+unfolding printed
+bare-more b l h k = rw (bare-print b h l) (and-both h k)
 
 lines-more : (b : ℕ) (ls : List (List ℕ)) → isBetween 32 126 b ≡ true → allPrintable (map bare ls) ≡ true → allPrintable (map bare (inFront b ls)) ≡ true
 unfolding inFront allPrintable printed bare
@@ -166,7 +152,7 @@ lines-cr b (c ∷ s) e f h =
 lines-byte : (b : ℕ) (s : List ℕ) → mayStand b s ≡ true → allPrintable (linesOf s) ≡ true → allPrintable (linesOf (b ∷ s)) ≡ true
 unfolding linesOf cutLines mayStand allPrintable printed bare
 lines-byte b s h k =
-    or-case (isBetween 32 126 b) _ h (λ e. rw (not-end b e) (lines-more b (cutLines s) e k))
+    or-case (isBetween 32 126 b) _ h (λ e. rw (print-lf b e) (lines-more b (cutLines s) e k))
     (λ r. or-case (eqb b 10) _ r (λ e. rw e k) (λ e. lines-cr b s (and-left (eqb b 13) _ e) (and-right (eqb b 13) _ e) k))
 
 lines-printable : (n : ℕ) (m : List ℕ) → bytePass n m .number ≡ 0 → allPrintable (linesOf m) ≡ true

@@ -1,21 +1,12 @@
--- Small laws of tests, choices and lists that the theorems here share.
+-- Small laws of tests and choices: two tests of which one holds, or neither, and what both sides of a choice have.
 -- Assumes nothing.
-use Prim.Native.Nat.{ℕ}
 use mathlib.Core.Path.{_≡_, refl, sym}
 use mathlib.Core.Bool.{Bool, true, false, _||_, cond, true≢false}
-use mathlib.Core.List.{List, [], _∷_, _++_}
-use lib.ListN.{length, drop}
-
--- ---- tests
 
 -- where a test is not true it is false
 pub is-false : (b : Bool) → (b ≡ true → ⊥) → b ≡ false
 is-false true h = absurd (h refl)
 is-false false h = refl
-
-pub or-true : (a : Bool) → (a || true) ≡ true
-or-true true = refl
-or-true false = refl
 
 pub or-case : {P : Type 0} (a b : Bool) → (a || b) ≡ true → (a ≡ true → P) → (b ≡ true → P) → P
 or-case true b h f g = f refl
@@ -41,17 +32,7 @@ pub or-right : (a b : Bool) → (a || b) ≡ false → b ≡ false
 or-right true b e = absurd (true≢false e)
 or-right false b e = e
 
-pub or-assoc : (a b c : Bool) → ((a || b) || c) ≡ (a || (b || c))
-or-assoc true b c = refl
-or-assoc false b c = refl
-
 -- a choice has what both its sides have
 pub of-both : {A : Type 0} (P : A → Type 0) (b : Bool) {x y : A} → (b ≡ true → P x) → (b ≡ false → P y) → P (cond b x y)
 of-both P true f g = f refl
 of-both P false f g = g refl
-
--- ---- lists
-
-pub drop-append : (a b : List ℕ) → drop (length a) (a ++ b) ≡ b
-drop-append [] b = refl
-drop-append (x ∷ a) b = drop-append a b

@@ -1,4 +1,4 @@
--- `batch::piece_end` meets its contract. The loop's invariant: the piece of what is left ends where the piece of the position ends.
+-- `pieces::piece_end` meets its contract. The loop's invariant: the piece of what is left ends where the piece of the position ends.
 -- Assumes nothing.
 use Prim.Native.Nat.{_+_, _-_}
 use mathlib.Core.Path.{_≡_, refl}
@@ -7,10 +7,10 @@ use lib.ListN.{length, drop}
 use borrow.Author.Needs.{needs}
 use Rattle.text.specs.Bytes.{bytes}
 use Rattle.lines.proofs.Laws.{Located, located}
-use Rattle.demands.specs.Pieces.{pieceOf}
-use Rattle.batch.proofs.Turns.{piece-stop, piece-more, piece-none}
-use Rattle.batch.proofs.piece_end.Statement.{statement}
-use Rattle.batch.proofs.piece_end.Tie as tie
+use Rattle.pieces.specs.Pieces.{pieceOf}
+use Rattle.pieces.proofs.Turns.{piece-stop, piece-more, piece-none}
+use Rattle.pieces.proofs.piece_end.Statement.{statement}
+use Rattle.pieces.proofs.piece_end.Tie as tie
 
 abbrev Inv-loop : tie.InvT-loop
 Inv-loop batch position at₀ t6 at = at + length (pieceOf (drop at batch)) ≡ position + length (pieceOf (drop position batch))

@@ -9,15 +9,15 @@ use native.Mathlib.Nat.{not-suc-le-zero}
 use native.Mathlib.Omega.{arith}
 use lib.Dec.{eqb}
 use lib.ListN.{length, drop, length-append, length-drop}
+use lib.Seq.{drop-append-seam}
 use borrow.Author.Tests.{not-true}
 use Rattle.text.specs.Bytes.{bytes, same, before}
+use Rattle.text.proofs.Bools.{of-both}
 use Rattle.text.proofs.Laws.{and-left, and-right, same-refl}
-use Rattle.lines.specs.Lines.{inFront, cutLines, bare, linesOf, ended, linesPass}
+use Rattle.lines.specs.Lines.{inFront, cutLines, bare, linesOf, ended, joined, linesPass}
 use Rattle.lines.proofs.Laws.{plain, Closed, passed}
-use Rattle.fill.specs.Filling.{joined}
-use Rattle.sheets.proofs.Small.{of-both, drop-append}
-use Rattle.demands.specs.Pieces.{cutBehind, withoutEnding, isDash, throughDash, pieceOf, piecesIn, pieces, together, cases, Answered}
-use Rattle.demands.proofs.Joins.{lines-joined, Whole, ended-whole, some-bytes}
+use Rattle.lines.proofs.Joins.{lines-joined, Whole, ended-whole, some-bytes}
+use Rattle.pieces.specs.Pieces.{cutBehind, withoutEnding, isDash, throughDash, pieceOf, piecesIn, pieces, together, cases, Answered}
 
 -- ---- the pieces of a batch are all of it
 
@@ -51,7 +51,7 @@ unfolding pieceOf
 piece-split m =
     let (rest, e) = through-front (cutBehind m) in
     let is : m ≡ pieceOf m ++ rest = sym (lines-together m) ∙ e in
-    let behind : drop (length (pieceOf m)) m ≡ rest = ap (drop (length (pieceOf m))) is ∙ drop-append (pieceOf m) rest in
+    let behind : drop (length (pieceOf m)) m ≡ rest = ap (drop (length (pieceOf m))) is ∙ drop-append-seam (pieceOf m) rest in
     is ∙ ap (λ (x : List ℕ). pieceOf m ++ x) (sym behind)
 
 -- it has at least one byte
@@ -216,7 +216,7 @@ pieces-of (m ∷ ms) w =
     let rest : List ℕ = together ms in
     let some : 1 ≤ length (m ++ rest) = rw (length-append m rest) (let s = some-bytes m (w .0 .end) in omega arith) in
     pieces-step (m ++ rest) some
-    ∙ rw (piece-message m rest (w .0), drop-append m rest) (ap (λ (x : List (List ℕ)). m ∷ x) (pieces-of ms (w .1)))
+    ∙ rw (piece-message m rest (w .0), drop-append-seam m rest) (ap (λ (x : List (List ℕ)). m ∷ x) (pieces-of ms (w .1)))
 
 -- so lists of messages that make the same batch are the same
 pub same-batch : (ms ks : List (List ℕ)) → Messages ms → Messages ks → together ms ≡ together ks → ms ≡ ks
