@@ -9,7 +9,7 @@ use lib.ListN.{length, drop}
 use borrow.Author.Tests.{leb-true}
 use Rattle.text.specs.Bytes.{bytes, begins, same}
 use Rattle.text.proofs.Bools.{of-both}
-use Rattle.lines.specs.Verdicts.{refused, pass, then}
+use Rattle.lines.specs.Verdicts.{refused, pass, then, when}
 use Rattle.lines.specs.Lines.{linesOf, ended, mayStand, sizePass, bytePass, endPass, linesPass}
 use Rattle.lines.specs.declared.Verdict.{Verdict}
 use Rattle.blocks.specs.Blocks.{Turn, goes, stops, over, ending, opening, closing, turn, named, roleOf, nameOf, isName, isTagged, follow, nest, nestPass}
@@ -29,7 +29,7 @@ use Rattle.table.specs.Table.{table, slotOf}
 use Rattle.walk.specs.Walk.{valueVerdict, valuesPass, bodyPass}
 use Rattle.forms.specs.Narrative.{isNarrative}
 use Rattle.trade.specs.declared.Trade.{Trade}
-use Rattle.kinds.specs.Kinds.{functionOf, lacksField, hasForbidden, when, recordPass, kindsPass}
+use Rattle.kinds.specs.Kinds.{functionOf, lacksField, hasForbidden, recordPass, kindsPass}
 use Rattle.values.specs.Writable.{inForm}
 use Rattle.judge.specs.Judging.{judgeOf}
 use Rattle.message.specs.Messages.{messageOf}

@@ -7,9 +7,9 @@ use Rattle.text.specs.Texts.{contents, textOf, inForm as textForm}
 use Rattle.amount.specs.Amounts.{inForm as amountForm}
 use Rattle.calendar.specs.Dates.{year, month, day, leap, lengths, monthLength, isDate, isTime, isMoment, earlier}
 use Rattle.digits.specs.Numerals.{digits}
-use Rattle.lines.specs.Verdicts.{refused, pass, then}
+use Rattle.lines.specs.Verdicts.{refused, pass, then, when}
 use Rattle.trade.specs.Records.{nobody, never, nought, blankTrade}
-use Rattle.kinds.specs.Kinds.{other, own, contra, stray, lacksField, tddkOnly, tddkNever, hasForbidden, when, recordPass}
+use Rattle.kinds.specs.Kinds.{other, own, contra, stray, lacksField, tddkOnly, tddkNever, hasForbidden, recordPass}
 use Rattle.values.specs.Values.{kindWord, sideWord, serviceWord, periodText, reasonText, narrative, values, valueOf}
 use Rattle.values.specs.Writable.{prepForm, periodForm, reasonForm, tests, hold, inForm}
 use Rattle.values.specs.Cases.{b}

@@ -10,10 +10,10 @@ use lib.ListN.{length, take, drop}
 use lib.Seq.{drop-drop}
 use borrow.Author.Tests.{lt-ltb, le-ltb}
 use Rattle.trade.specs.declared.Trade.{Trade}
-use Rattle.lines.specs.Verdicts.{refused, pass, then}
+use Rattle.lines.specs.Verdicts.{refused, pass, then, when}
 use Rattle.lines.specs.declared.Verdict.{Verdict}
 use Rattle.lines.proofs.Laws.{stop, go}
-use Rattle.kinds.specs.Kinds.{when, recordPass}
+use Rattle.kinds.specs.Kinds.{recordPass}
 use Rattle.kinds.proofs.Turns.{stops, goes-on, broken, kept as passed}
 use Rattle.values.specs.Values.{valueOf}
 use Rattle.values.specs.Writable.{tests, hold, inForm}

@@ -6,9 +6,9 @@ use Prim.Native.Nat.{ℕ, _+_}
 use mathlib.Core.Bool.{not}
 use lib.Dec.{ltb}
 use lib.ListN.{length}
-use Rattle.lines.specs.Verdicts.{then}
+use Rattle.lines.specs.Verdicts.{then, when}
 use Rattle.trade.specs.declared.Trade.{Trade}
-use Rattle.kinds.specs.Kinds.{when, recordPass}
+use Rattle.kinds.specs.Kinds.{recordPass}
 use Rattle.values.specs.Values.{valueOf}
 use Rattle.values.specs.Writable.{inForm}
 

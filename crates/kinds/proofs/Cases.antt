@@ -4,8 +4,8 @@ use mathlib.Core.Path.{refl}
 use Rattle.text.specs.Bytes.{bytes, same}
 use Rattle.text.specs.Texts.{textOf}
 use Rattle.calendar.specs.Dates.{year, month, day, earlier}
-use Rattle.lines.specs.Verdicts.{refused, pass, then}
-use Rattle.kinds.specs.Kinds.{other, own, contra, stray, functionOf, lacksField, tddkOnly, tddkNever, hasForbidden, when, recordPass, kindsPass}
+use Rattle.lines.specs.Verdicts.{refused, pass, then, when}
+use Rattle.kinds.specs.Kinds.{other, own, contra, stray, functionOf, lacksField, tddkOnly, tddkNever, hasForbidden, recordPass, kindsPass}
 use Rattle.kinds.specs.Cases.{trade, cases, Answered}
 
 pub answered : Answered

@@ -9,10 +9,10 @@ use borrow.Author.Tests.{not-false, eqb-false}
 use Rattle.text.specs.Bytes.{same}
 use Rattle.text.proofs.Laws.{same-refl}
 use Rattle.calendar.specs.Dates.{earlier}
-use Rattle.lines.specs.Verdicts.{refused, pass, then}
+use Rattle.lines.specs.Verdicts.{refused, pass, then, when}
 use Rattle.lines.proofs.Laws.{then-zero}
 use Rattle.trade.specs.declared.Trade.{Trade}
-use Rattle.kinds.specs.Kinds.{functionOf, lacksField, hasForbidden, when, recordPass, kindsPass}
+use Rattle.kinds.specs.Kinds.{functionOf, lacksField, hasForbidden, recordPass, kindsPass}
 
 -- a rule that gives 0 is kept
 when-zero : (b : Bool) (n : ℕ) → eqb n 0 ≡ false → when b n .number ≡ 0 → b ≡ false

@@ -5,11 +5,11 @@ use Prim.Native.Nat.{ℕ}
 use mathlib.Core.Path.{_≡_, sym, ap, _∙_}
 use mathlib.Core.Bool.{Bool, true, false}
 use lib.Dec.{eqb}
-use Rattle.lines.specs.Verdicts.{refused, pass, then}
+use Rattle.lines.specs.Verdicts.{refused, pass, then, when}
 use Rattle.lines.specs.declared.Verdict.{Verdict}
 use Rattle.trade.specs.declared.Kind.{Kind}
 use Rattle.trade.specs.declared.Trade.{Trade}
-use Rattle.kinds.specs.Kinds.{when}
+use Rattle.kinds.specs.Kinds.{}
 
 -- a rule of one kind is that of every trade of the kind
 pub by-kind : (rule : Kind → Trade → Bool) (t : Trade) (k : Kind) (b : Bool) → t .kind ≡ k → b ≡ rule k t → b ≡ rule (t .kind) t

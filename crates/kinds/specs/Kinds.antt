@@ -11,7 +11,7 @@ use lib.Dec.{ltb, eqb}
 use Rattle.text.specs.Bytes.{bytes, same}
 use Rattle.text.specs.declared.Text.{Text}
 use Rattle.calendar.specs.Dates.{earlier}
-use Rattle.lines.specs.Verdicts.{refused, pass, then}
+use Rattle.lines.specs.Verdicts.{then, when}
 use Rattle.lines.specs.declared.Verdict.{Verdict}
 use Rattle.trade.specs.declared.Kind.{Kind}
 use Rattle.trade.specs.declared.Side.{Side}
@@ -71,11 +71,6 @@ hasForbidden Kind.Inst t = present (t .prev) || (present (t .list) || tddkOnly t
 hasForbidden Kind.Canc t = present (t .prev) || tddkOnly t
 hasForbidden Kind.Mdfc t = tddkOnly t
 hasForbidden Kind.Tddk t = tddkNever t
-
--- a number, where its rule is broken
-unfoldable pub when : Bool → ℕ → Verdict
-when true number = refused number 0
-when false number = pass
 
 -- 14 to 17, which a record shows by itself
 unfoldable pub recordPass : Trade → Verdict

@@ -3,3 +3,4 @@ pub mod Lined
 pub mod Joins
 pub mod Turns
 pub mod Cases
+pub mod Standing

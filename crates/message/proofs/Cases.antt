@@ -14,8 +14,8 @@ use Rattle.sheets.specs.Filled.{some, anyField, anyMember, anyIn, filledFields,
 use Rattle.values.specs.Cases.{b}
 use Rattle.trade.specs.Records.{nobody, never, nought, blankTrade}
 use Rattle.lines.specs.Lines.{joined}
-use Rattle.lines.specs.Verdicts.{refused, pass, then}
-use Rattle.kinds.specs.Kinds.{other, own, contra, stray, functionOf, lacksField, tddkOnly, tddkNever, hasForbidden, when, recordPass}
+use Rattle.lines.specs.Verdicts.{refused, pass, then, when}
+use Rattle.kinds.specs.Kinds.{other, own, contra, stray, functionOf, lacksField, tddkOnly, tddkNever, hasForbidden, recordPass}
 use Rattle.calendar.specs.Dates.{year, month, day, leap, lengths, monthLength, isDate, isTime, earlier, isMoment, dateText, momentText}
 use Rattle.amount.specs.Amounts.{whole, decimals, trimmed, joined as joined-amounts, shortened, tidy, inForm as inForm-amounts, spread, amountText}
 use Rattle.digits.specs.Numerals.{digits, tenTo}

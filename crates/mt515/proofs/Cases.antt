@@ -7,14 +7,14 @@ use Rattle.mt515.specs.Reading.{reading, judged, verdictOf, readOf}
 use Rattle.table.specs.Table.{table, slots, slotOf}
 use Rattle.walk.specs.Walk.{bodyPass, takenIn, valueVerdict, valuesPass, valueFrom}
 use Rattle.lines.specs.Lines.{inFront, cutLines, bare, linesOf, ended as ended-lines, sizePass, mayStand, bytePass, endPass, linesPass, lineAt}
-use Rattle.lines.specs.Verdicts.{refused, pass, then}
+use Rattle.lines.specs.Verdicts.{refused, pass, then, when}
 use Rattle.blocks.specs.Blocks.{isTagged, nameOf, isName, named, roleOf, ending, opening, closing, turn, follow, nest, nestPass}
 use Rattle.layout.specs.Layout.{fits, isSeen, lacks, beneath, against, look, onward, scan, stepOf, withTaken, marked, behind as behind-layout, runOf, layoutOf}
 use Rattle.forms.specs.Forms.{isCode, wordAt, isWord, unless, formNumber, valueNumber}
 use Rattle.forms.specs.Narrative.{serviceIn, hasPeriod, periodIn, behindPeriod, hasReason, reasonIn, goodPeriod, goodReason, isNarrative}
 use Rattle.trade.specs.Narrative.{serviceOf, periodOf}
 use Rattle.trade.specs.Records.{kindIn, sideIn, partyOf, tradeOf, nobody, never, nought, blankTrade}
-use Rattle.kinds.specs.Kinds.{other, own, contra, stray, functionOf, lacksField, tddkOnly, tddkNever, hasForbidden, when, recordPass, kindsPass}
+use Rattle.kinds.specs.Kinds.{other, own, contra, stray, functionOf, lacksField, tddkOnly, tddkNever, hasForbidden, recordPass, kindsPass}
 use Rattle.calendar.specs.Dates.{year, month, day, leap, lengths, monthLength, isDate, isTime, earlier, isMoment, dateFrom, dateRead, momentOf, momentFrom, momentRead, dateText, momentText}
 use Rattle.amount.specs.Amounts.{whole, decimals, isAmount, trimmed, joined, shortened, tidy, valueFrom as valueFrom-amounts, valueOf, amountRead, inForm, spread, amountText, partsRead, noughts}
 use Rattle.digits.specs.Numerals.{numeralFrom, numeral, digits, numberOf as numberOf-numerals, fixedOf, tenTo}

@@ -43,7 +43,7 @@ fn first_fault(slots: &[u8], fault: Verdict, slot: u8, line: &[u8], n: usize) ->
 
 // Keeps where the value of a slot begins, behind its fixed text, and where it ends, of a line from one place to another.
 fn keep(slots: &[u8], starts: &mut [usize], ends: &mut [usize], slot: u8, at: usize, end: usize)
-    requires { ⌜ at + 12 < 2 ^ 64 ⌝ }
+    requires { ⌜ at + 16 < 2 ^ 64 ⌝ }
     ensures { λ _. ⌜ (now (starts .exit) ≡ set (now (starts .entry)) slot (at + length (slotAt (now (slots .entry)) slot .fixed))) × (now (ends .exit) ≡ set (now (ends .entry)) slot end) ⌝ }
 {
     let fixed = forms::fixed_text(slots, slot as usize).len();

@@ -10,6 +10,7 @@ use Rattle.sheets.specs.Trees.{Field, Member, Tree, last, line, block, g
 use Rattle.sheets.specs.Sheets.{Entry, edge, held, has}
 use Rattle.sheets.specs.Filled.{some, anyField, anyIn}
 use Rattle.sheets.specs.Plain.{Group, groupsOf}
+unfoldable pub use Rattle.sheets.specs.Slots.{fieldSlots, ownSlots, memberSlots, slotsOf, firstSlots, mustSlots}
 
 -- ---- slots: from 1 on, as many as have a byte
 
@@ -141,23 +142,6 @@ complete value (group n a o c ms t) = (not n || allMembers value ms) && (wholeMe
 
 -- ---- slots: each row has one of its own
 
-unfoldable pub fieldSlots : List Field → List ℕ
-fieldSlots [] = []
-fieldSlots (f ∷ fs) = f .slot ∷ fieldSlots fs
-
-unfoldable pub ownSlots : Member → List ℕ
-ownSlots m = m .slot ∷ fieldSlots (m .inside)
-
-unfoldable pub memberSlots : List Member → List ℕ
-memberSlots [] = []
-memberSlots (m ∷ ms) = ownSlots m ++ memberSlots ms
-
-unfoldable pub slotsOf : Tree → List ℕ
-slotsOf (last c) = []
-slotsOf (line f t) = f .slot ∷ slotsOf t
-slotsOf (block m o t u) = slotsOf t ++ slotsOf u
-slotsOf (group n a o c ms t) = memberSlots ms ++ slotsOf t
-
 unfoldable pub disjoint : List ℕ → List ℕ → Bool
 disjoint [] ys = true
 disjoint (x ∷ xs) ys = not (has ys x) && disjoint xs ys
@@ -213,18 +197,6 @@ full [] = true
 full (edge o ∷ es) = full es
 full (held i k v ∷ es) = some v && full es
 
--- ---- the slots that every sheet has
-
-unfoldable pub firstSlots : List Member → List ℕ
-firstSlots [] = []
-firstSlots (m ∷ ms) = m .slot ∷ firstSlots ms
-
-unfoldable pub mustSlots : Tree → List ℕ
-mustSlots (last c) = []
-mustSlots (line f t) = cond (f .must) (f .slot ∷ mustSlots t) (mustSlots t)
-mustSlots (block m o t u) = cond m (mustSlots t ++ mustSlots u) (mustSlots u)
-mustSlots (group n a o c ms t) = cond n (firstSlots ms ++ mustSlots t) (mustSlots t)
-
 -- ---- values: what stands because it must has one
 
 unfoldable pub solidFields : (ℕ → List ℕ) → List Field → Bool
@@ -233,7 +205,7 @@ solidFields value (f ∷ fs) = (not (f .must) || some (value (f .slot))) && soli
 
 unfoldable pub solidMembers : (ℕ → List ℕ) → List Member → Bool
 solidMembers value [] = true
-solidMembers value (m ∷ ms) = solidFields value (m .inside) && solidMembers value ms
+solidMembers value (m ∷ ms) = (not (some (value (m .slot))) || solidFields value (m .inside)) && solidMembers value ms
 
 unfoldable pub solid : (ℕ → List ℕ) → Tree → Bool
 solid value (last c) = true

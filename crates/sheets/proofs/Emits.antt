@@ -262,7 +262,7 @@ module _ (value : ℕ → List ℕ) where
       (λ e. absurd (true≢false (sym (come-more es (i ∷ slots) s (rw (← (eqb-true i s e)) (has-front i slots))) ∙ k)))
       (λ e. value-none es (i ∷ slots) s k)
 
-  no-value : (v : List ℕ) → some v ≡ false → v ≡ []
+  pub no-value : (v : List ℕ) → some v ≡ false → v ≡ []
   unfolding some
   no-value [] e = refl
   no-value (b ∷ v) e = absurd (true≢false e)

@@ -9,3 +9,4 @@ pub mod Order
 pub mod Musts
 pub mod Solid
 pub mod Ends
+pub mod Settled

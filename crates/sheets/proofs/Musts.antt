@@ -43,7 +43,7 @@ must-one : (b : Bool) (xs ys after : List ℕ) (s : ℕ) → (b ≡ true → has
 must-one true xs ys after s f g h = or-case (has xs s) (has ys s) (sym (has-append xs ys s) ∙ h) (f refl) g
 must-one false xs ys after s f g h = g h
 
-musts-come : {slots : List ℕ} {t : Tree} {es : List Entry} (s : ℕ) → Laid slots t es → has (mustSlots t) s ≡ true → has (come slots es) s ≡ true
+pub musts-come : {slots : List ℕ} {t : Tree} {es : List Entry} (s : ℕ) → Laid slots t es → has (mustSlots t) s ≡ true → has (come slots es) s ≡ true
 unfolding mustSlots come has
 musts-come s shut h = absurd (true≢false (sym h))
 musts-come {slots = slots} s (given {f = f} {t = t} {es = es} v l) h =

@@ -15,7 +15,7 @@ use Rattle.sheets.specs.Sheets.{Entry, edge, held, lineOf, linesIn, come
 use Rattle.sheets.specs.Filled.{some, valueIn, anyField, anyMember, anyIn, filledFields, filledMembers, filled}
 use Rattle.sheets.specs.Plain.{Group, ahead, through, firstBegins, blockWith, blocksWith, anyLine, past, arranged, inOrder, keysOf, groupsOf}
 use Rattle.sheets.proofs.Checks.{clash, starts, whole, fitsLine, noneOf, apartFields, laterApart, apartMembers, freeFields, freeMembers, free, fieldSlots, ownSlots, memberSlots, slotsOf, disjoint, distinct, soleMembers, sole, allFree, closedMembers, heavy, tellable, full}
-use Rattle.sheets.proofs.Accepts.{clash-apart, none-among, lines-append}
+use Rattle.sheets.proofs.Accepts.{clash-apart, none-among, come-append, lines-append}
 use Rattle.sheets.proofs.Once.{has-append, apart-lists, slotsHeld, has-held, among-slots, chain-slots, inside, outside, Disjoint, one-or-apart, own-held, own-distinct, not-again, comes-once, own-values}
 use Rattle.sheets.proofs.Emits.{has-front, come-more, Fits}
 
@@ -139,18 +139,18 @@ unfolding linesIn anyLine
 any-lines x [] ds h k = k
 any-lines x (e ∷ es) ds h k = or-none (same x (lineOf e)) _ (or-left (same x (lineOf e)) _ h) (any-lines x es ds (or-right (same x (lineOf e)) _ h) k)
 
-chain-free : (x : List ℕ) (fs : List Field) (c : List ℕ) → freeFields x fs c ≡ free x false (chain fs c)
+pub chain-free : (x : List ℕ) (fs : List Field) (c : List ℕ) → freeFields x fs c ≡ free x false (chain fs c)
 unfolding freeFields free chain
 chain-free x [] c = refl
 chain-free x (f ∷ fs) c = ap (λ (b : Bool). not (begins (f .key) x) && b) (chain-free x fs c)
 
-among-free : (x c : List ℕ) {m : Member} {ms : List Member} → Among m ms → freeMembers x c ms ≡ true
+pub among-free : (x c : List ℕ) {m : Member} {ms : List Member} → Among m ms → freeMembers x c ms ≡ true
     → (not (begins (m .key) x) ≡ true) × (freeFields x (m .inside) c ≡ true)
 unfolding freeMembers
 among-free x c (front {m = m}) h = (and-left _ _ h, and-left (freeFields x (m .inside) c) _ (and-right (not (begins (m .key) x)) _ h))
 among-free x c (later {k = k} i) h = among-free x c i (and-right (freeFields x (k .inside) c) _ (and-right (not (begins (k .key) x)) _ h))
 
-laid-misses : (x : List ℕ) {slots : List ℕ} {t : Tree} {es : List Entry} → Laid slots t es → free x false t ≡ true → anyLine x (linesIn es) ≡ false
+pub laid-misses : (x : List ℕ) {slots : List ℕ} {t : Tree} {es : List Entry} → Laid slots t es → free x false t ≡ true → anyLine x (linesIn es) ≡ false
 unfolding free linesIn lineOf anyLine
 laid-misses x (shut {c = c}) h = or-none (same x c) _ (line-misses x c h) refl
 laid-misses x (given {f = f} v l) h = or-none (same x (f .key ++ v)) _ (key-misses x (f .key) v (and-left _ _ h)) (laid-misses x l (and-right (not (begins (f .key) x)) _ h))
@@ -258,7 +258,7 @@ module _ (value : ℕ → List ℕ) where
 
 -- ---- many blocks: those that came, one behind the other
 
-data Units (o c : List ℕ) (ms : List Member) : List Entry → Type 0 where
+pub data Units (o c : List ℕ) (ms : List Member) : List Entry → Type 0 where
   none : Units o c ms []
   unit : {slots : List ℕ} {m : Member} {es us : List Entry} (v : List ℕ) → Among m ms → Laid slots (chain (m .inside) c) es
       → ((s : ℕ) → has (ownSlots m) s ≡ true → has (slotsHeld us) s ≡ false) → Units o c ms us
@@ -269,18 +269,24 @@ unfolding linesIn
 lines-both [] ds = refl
 lines-both (e ∷ es) ds = ap (λ (l : List (List ℕ)). lineOf e ∷ l) (lines-both es ds)
 
-split : {slots : List ℕ} {n a : Bool} {o c : List ℕ} {ms : List Member} {t : Tree} {es : List Entry}
+pub split : {slots : List ℕ} {n a : Bool} {o c : List ℕ} {ms : List Member} {t : Tree} {es : List Entry}
     → soleMembers ms ≡ true → disjoint (memberSlots ms) (slotsOf t) ≡ true → Laid slots (group n a o c ms t) es
-    → (us : List Entry) × (ds : List Entry) × (after : List ℕ) × (es ≡ us ++ ds) × Units o c ms us × Laid after t ds
-split {slots = slots} h d (member {o = o} {m = m} {es = es} {ds = ds} v i z l r) =
-    let (us, rest, after, e, u, k) = split h d r in
+    → (us : List Entry) × (ds : List Entry) × (es ≡ us ++ ds) × Units o c ms us × Laid (come slots us) t ds
+unfolding come
+split {slots = slots} {t = t} h d (member {o = o} {m = m} {es = es} {ds = ds} v i z l r) =
+    let (us, rest, e, u, k) = split h d r in
     let fresh : (s : ℕ) → has (ownSlots m) s ≡ true → has (slotsHeld us) s ≡ false
     = λ s w. or-left (has (slotsHeld us) s) (has (slotsHeld rest) s)
     (sym (has-held us rest s) ∙ ap (λ (y : List Entry). has (slotsHeld y) s) (sym e)
     ∙ not-again m s h d i (come-more es (m .slot ∷ slots) (m .slot) (has-front (m .slot) slots)) w r) in
-    let x = held (m .slot) (m .key) v in
-    (edge o ∷ x ∷ (es ++ us), rest, after, ap (λ (y : List Entry). edge o ∷ x ∷ y) (ap (λ (y : List Entry). es ++ y) e ∙ sym (append-assoc es us rest)), unit v i l fresh u, k)
-split {slots = slots} h d (done {es = es} z l) = ([], es, slots, refl, none, l)
+    let x = held (m .slot) (m .key) v in (
+      edge o ∷ x ∷ (es ++ us),
+      rest,
+      ap (λ (y : List Entry). edge o ∷ x ∷ y) (ap (λ (y : List Entry). es ++ y) e ∙ sym (append-assoc es us rest)),
+      unit v i l fresh u,
+      subst (λ (y : List ℕ). Laid y t rest) (sym (come-append (m .slot ∷ slots) es us)) k,
+    )
+split h d (done {es = es} z l) = ([], es, refl, none, l)
 
 -- the last line of one of them
 chain-end : (fs : List Field) (c : List ℕ) {slots : List ℕ} {es : List Entry} → Laid slots (chain fs c) es → free c true (chain fs c) ≡ true
@@ -313,7 +319,7 @@ units-end {o = o} {c = c} h (unit {m = m} {es = es} {us = us} v i l f u) =
     (λ z. (front (linesIn es ++ z .0), ap front (lines-both es us ∙ ap (λ (y : List (List ℕ)). linesIn es ++ y) (z .1) ∙ sym (append-assoc (linesIn es) (z .0) (c ∷ []))), _, refl))
     (units-end h u))
 
-units-slots : {o c : List ℕ} {ms : List Member} {us : List Entry} (s : ℕ) → Units o c ms us → has (slotsHeld us) s ≡ true → has (memberSlots ms) s ≡ true
+pub units-slots : {o c : List ℕ} {ms : List Member} {us : List Entry} (s : ℕ) → Units o c ms us → has (slotsHeld us) s ≡ true → has (memberSlots ms) s ≡ true
 unfolding slotsHeld has ownSlots
 units-slots s none h = absurd (true≢false (sym h))
 units-slots {c = c} s (unit {m = m} {es = es} {us = us} v i l f u) h =
@@ -484,7 +490,7 @@ module _ (value : ℕ → List ℕ) (o c : List ℕ) (ms : List Member) (rest : 
 -- ---- a sheet in order
 
 module _ (value : ℕ → List ℕ) where
-  none-fields : (fs : List Field) → ((s : ℕ) → has (fieldSlots fs) s ≡ true → value s ≡ []) → anyField value fs ≡ false
+  pub none-fields : (fs : List Field) → ((s : ℕ) → has (fieldSlots fs) s ≡ true → value s ≡ []) → anyField value fs ≡ false
   unfolding anyField fieldSlots has
   none-fields [] h = refl
   none-fields (f ∷ fs) h =
@@ -500,7 +506,7 @@ module _ (value : ℕ → List ℕ) where
       (or-none (anyField value (m .inside)) _ (none-fields (m .inside) (λ s e. own s (or-two (eqb (m .slot) s) _ e)))
       (none-members ms (λ s e. h s (rw (has-append (ownSlots m) (memberSlots ms) s) (or-two (has (ownSlots m) s) _ e)))))
 
-  none-in : (t : Tree) → ((s : ℕ) → has (slotsOf t) s ≡ true → value s ≡ []) → anyIn value t ≡ false
+  pub none-in : (t : Tree) → ((s : ℕ) → has (slotsOf t) s ≡ true → value s ≡ []) → anyIn value t ≡ false
   unfolding anyIn slotsOf has
   none-in (last c) h = refl
   none-in (line f t) h =
@@ -677,7 +683,7 @@ module _ (value : ℕ → List ℕ) where
       let sm = and-left (soleMembers ms) _ q in
       let q' = and-right (soleMembers ms) _ q in
       let dj = and-left (disjoint (memberSlots ms) (slotsOf t)) _ q' in
-      let (us, ds, after, e, u, k) = split sm dj l in
+      let (us, ds, e, u, k) = split sm dj l in
       let r' : Right value (us ++ ds) = subst (Right value) e r in
       let b' : Bare value (memberSlots ms ++ slotsOf t) (us ++ ds) = subst (Bare value (memberSlots ms ++ slotsOf t)) e b in
       let wa = and-left (free o false t && free c false t) _ w in

@@ -37,10 +37,12 @@ module _ (value : ℕ → List ℕ) where
   unfolding filledMembers solidMembers full
   full-members o c [] h = refl
   full-members o c (m ∷ ms) h =
-      let k = solidFields value (m .inside) in
+      let k = not (some (value (m .slot))) || solidFields value (m .inside) in
       let r = full-members o c ms (and-right k _ h) in
       of-both (λ es. full es ≡ true) (some (value (m .slot)))
-      (λ e. and-both {a = some (value (m .slot))} e (full-append (filledFields value (m .inside) c) _ (full-fields (m .inside) c (and-left k _ h)) r)) (λ e. r)
+      (λ e. and-both {a = some (value (m .slot))} e
+      (full-append (filledFields value (m .inside) c) _ (full-fields (m .inside) c (rw e at (and-left k _ h))) r))
+      (λ e. r)
 
   pub full-filled : (t : Tree) → solid value t ≡ true → full (filled value t) ≡ true
   unfolding filled solid full

@@ -1,4 +1,5 @@
 pub mod Trees
+pub mod Slots
 pub mod Sheets
 pub mod Filled
 pub mod Plain

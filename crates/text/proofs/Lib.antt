@@ -2,4 +2,3 @@ pub mod Bools
 pub mod Laws
 pub mod Printed
 pub mod Turns
-pub mod Printed

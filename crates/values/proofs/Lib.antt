@@ -1,8 +1,7 @@
 pub mod Fields
 pub mod Narratives
 pub mod Laws
-pub mod Printed
-pub mod Widths
 pub mod Turns
 pub mod Places
 pub mod Cases
+pub mod Layout

@@ -1,4 +1,5 @@
 pub mod Values
 pub mod Places
 pub mod Writable
+pub mod Mt515
 pub mod Cases

@@ -1,14 +1,14 @@
 -- Document 01, "The slots, in order", and "Plain form, and the record": the value that a record has for each slot, as it stands
 -- behind the slot's fixed text; nothing where the record has none.
 use Prim.Native.Nat.{ℕ}
-use mathlib.Core.Bool.{Bool, cond}
+use mathlib.Core.Bool.{cond}
 use mathlib.Core.List.{List, [], _∷_, _++_}
 use lib.ListN.{getD}
 use Rattle.text.specs.Bytes.{bytes}
 use Rattle.text.specs.Texts.{contents}
 use Rattle.text.specs.declared.Text.{Text}
 use Rattle.digits.specs.Numerals.{digits}
-use Rattle.amount.specs.Amounts.{amountText, tidy}
+use Rattle.amount.specs.Amounts.{amountText}
 use Rattle.calendar.specs.Dates.{dateText, momentText}
 use Rattle.forms.specs.Narrative.{services}
 use Rattle.trade.specs.Records.{kinds, sides}
@@ -18,7 +18,6 @@ use Rattle.trade.specs.declared.Service.{Service}
 use Rattle.trade.specs.declared.Period.{Period}
 use Rattle.trade.specs.declared.Trade.{Trade}
 use Rattle.kinds.specs.Kinds.{present, functionOf}
-use Rattle.fill.specs.Filling.{isAny}
 
 -- ---- code words, from the lists that they are read by
 
@@ -92,13 +91,3 @@ values t =
 
 unfoldable pub valueOf : Trade → ℕ → List ℕ
 valueOf t slot = getD (values t) slot []
-
--- ---- what the layout makes optional: PREP, MAST, PREV, LIST, of each party the contra reference and the trader, and POOL
-
-unfoldable pub optional : ℕ → Bool
-optional slot = isAny (3 ∷ 4 ∷ 5 ∷ 6 ∷ 13 ∷ 14 ∷ 16 ∷ 17 ∷ 20 ∷ []) slot
-
--- ---- the plain form of a value: the price and the par, which are amounts, are tidied, and nothing else changes
-
-unfoldable pub tidied : ℕ → List ℕ → List ℕ
-tidied slot v = cond (isAny (9 ∷ 18 ∷ []) slot) (tidy v) v

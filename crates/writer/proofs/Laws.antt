@@ -13,7 +13,8 @@ use Rattle.sheets.specs.Trees.{Tree, tableOf}
 use Rattle.sheets.specs.Sheets.{linesIn}
 use Rattle.sheets.specs.Filled.{filled}
 use Rattle.fill.specs.Runs.{flat}
-use Rattle.fill.specs.Filling.{joined, Lent, valueAt, behindAt, filling}
+use Rattle.lines.specs.Lines.{joined}
+use Rattle.fill.specs.Filling.{Lent, valueAt, behindAt, filling}
 use Rattle.fill.proofs.Runs.{Put, Run, flat-append, whole}
 use Rattle.fill.proofs.Walks.{joined-append, filling-is}
 use Rattle.writer.specs.Parts.{headLines, headParts, messageParts}

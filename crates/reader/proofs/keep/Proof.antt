@@ -13,7 +13,7 @@ fixed-text-requires c κs = search needs
 
 add-keep : tie.Need-add-keep
 add-keep c =
-    let short : length (now (c .before .fixed-text .result)) ≤ 12 = rw (c .before .fixed-text .ensures) (fixed-short _ _) in
+    let short : length (now (c .before .fixed-text .result)) ≤ 16 = rw (c .before .fixed-text .ensures) (fixed-short _ _) in
     omega (arith, short, c .before .before .before .before .before .pre)
 
 keep-requires : tie.Need-keep-requires

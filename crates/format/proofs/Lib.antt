@@ -1,0 +1,16 @@
+pub mod Tests
+pub mod Nests
+pub mod Prints
+pub mod Laws
+pub mod Heads
+pub mod Said
+pub mod Accepting
+pub mod Holds
+pub mod Round
+pub mod Passing
+pub mod Plainly
+pub mod Demands
+pub mod Numbers
+pub mod Field
+pub mod Grows
+pub mod Lengths

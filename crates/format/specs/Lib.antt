@@ -1,0 +1,9 @@
+pub mod Format
+pub mod Reading
+pub mod Passing
+pub mod Lawful
+pub mod Writing
+pub mod Plain
+pub mod Asking
+pub mod Demands
+pub mod Field

@@ -1,0 +1,54 @@
+-- The MT515 as a message type: what is its own, and no more. What is said of a message type in format's specs/ is said of this one.
+use Prim.Native.Nat.{ℕ, _+_}
+use mathlib.Core.Bool.{cond}
+use mathlib.Core.List.{List, [], _∷_}
+use lib.Dec.{ltb, eqb}
+use lib.ListN.{length}
+use Rattle.text.specs.Bytes.{bytes}
+use Rattle.lines.specs.Verdicts.{then, when}
+use Rattle.sheets.specs.Plain.{Group}
+use Rattle.format.specs.Format.{Format}
+use Rattle.trade.specs.Records.{tradeOf, blankTrade}
+use Rattle.trade.specs.declared.Trade.{Trade}
+use Rattle.kinds.specs.Kinds.{recordPass, kindsPass}
+use Rattle.table.specs.Table.{header, slotOf}
+use Rattle.table.specs.Tree.{tree}
+use Rattle.values.specs.Values.{valueOf}
+use Rattle.values.specs.Writable.{inForm}
+
+-- ---- the plain form: LINK blocks stand as MAST, PREV, LIST; the buyer's block stands before the seller's; in an amount needless
+-- noughts go, which are the price and the par
+
+unfoldable pub links : Group
+links = record { opening = bytes ":16R:LINK"; closing = bytes ":16S:LINK"; keys = bytes ":20C::MAST" ∷ bytes ":20C::PREV" ∷ bytes ":20C::LIST" ∷ [] }
+
+unfoldable pub parties : Group
+parties = record { opening = bytes ":16R:CONFPRTY"; closing = bytes ":16S:CONFPRTY"; keys = bytes ":95R::BUYR" ∷ bytes ":95R::SELL" ∷ [] }
+
+unfoldable pub fronts : List (List ℕ)
+fronts = bytes ":90A::DEAL//PRCT/" ∷ bytes ":36B::CONF//FAMT/" ∷ []
+
+-- ---- the message type
+
+-- 13 to 17 are the rules of reading, with 23G's value; 14 to 17 and 20 those of writing. 20 can not come up, since no narrative in
+-- form is so long; it keeps its place in the order. Of 70E's value the first byte is not the field's, since that is what follows
+-- `GSCC/`
+abbrev pub mt515 : Format
+mt515 =
+    record {
+      header = header;
+      tree = tree;
+      slotOf = slotOf;
+      Held = Trade;
+      blank = blankTrade;
+      recordOf = tradeOf;
+      valueOf = valueOf;
+      inForm = inForm;
+      readRules = λ value t. kindsPass (value 2) t;
+      writeRules = λ t. then (recordPass t) (when (ltb 35 (4 + length (valueOf t 21))) 20);
+      groups = links ∷ parties ∷ [];
+      fronts = fronts;
+      longest = 822;
+      fields = 21;
+      beyond = λ slot. cond (eqb slot 21) 1 0;
+    }
