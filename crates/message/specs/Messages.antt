@@ -1,29 +1,13 @@
--- Document 01, "Lines and blocks" and "The slots, in order", from the record's side: the message of a record.
+-- The message of a record, of the MT515: what format's specs/Writing says of any message type.
 use Prim.Native.Nat.{ℕ}
-use mathlib.Core.Bool.{_&&_, cond}
-use mathlib.Core.List.{List, [], _∷_, _++_}
-use lib.Dec.{eqb}
-use lib.ListN.{length}
-use Rattle.text.specs.Bytes.{bytes}
-use Rattle.text.specs.Texts.{contents}
-use Rattle.lines.specs.Lines.{joined}
+use mathlib.Core.List.{List}
+use Rattle.format.specs.Writing as Any
 use Rattle.trade.specs.declared.Trade.{Trade}
-use Rattle.sheets.specs.Sheets.{linesIn}
-use Rattle.sheets.specs.Filled.{filled}
-use Rattle.table.specs.Table.{fixedOf}
-use Rattle.table.specs.Tree.{tree}
-use Rattle.values.specs.Values.{valueOf, optional}
+use Rattle.values.specs.Mt515.{mt515}
 
--- all that stands behind the text of a slot, its fixed text and its value; nothing where an optional one is absent
-unfoldable pub behindKey : Trade → ℕ → List ℕ
-behindKey t slot = cond (optional slot && eqb (length (valueOf t slot)) 0) [] (fixedOf slot ++ valueOf t slot)
+-- its lines, and all of it
+abbrev pub linesFor : Trade → List (List ℕ)
+linesFor t = Any.linesFor mt515 t
 
--- password; sender; `515/000/GSCC`; `MBSCTRRS`
-unfoldable pub headerOf : List ℕ → List ℕ → List (List ℕ)
-headerOf password sender = password ∷ sender ∷ bytes "515/000/GSCC" ∷ bytes "MBSCTRRS" ∷ []
-
-unfoldable pub linesFor : Trade → List (List ℕ)
-linesFor t = headerOf (contents (t .password)) (contents (t .sender)) ++ linesIn (filled (behindKey t) tree)
-
-unfoldable pub messageOf : Trade → List ℕ
-messageOf t = joined (linesFor t)
+abbrev pub messageOf : Trade → List ℕ
+messageOf t = Any.messageOf mt515 t

@@ -1,4 +1,2 @@
-pub mod Body
-pub mod Walks
 pub mod Reading
 pub mod Cases

@@ -1,8 +1,6 @@
 // The MT515: a message is read into its record, or refused with a number and a line.
 //
-// What is right stands in specs/: Body and Reading, over the table of the crate `table` and the walk of the crate `walk`.
-mod header;
-
+// What is right stands in specs/Reading, over format's specs/Reading and values' specs/Mt515.
 use lines::Verdict;
 use trade::Trade;
 ghost use mathlib.Core.Path.{_≡_};
@@ -27,35 +25,6 @@ fn refuse(verdict: Verdict) -> Reading
     }
 }
 
-// Reads a message.
-pub fn read(message: &[u8]) -> Reading
-    ensures { λ r. ⌜ r ≡ readOf (now (message .entry)) ⌝ }
-{
-    let lines = lines::check(message);
-    if lines.number != 0 {
-        return refuse(lines);
-    }
-    let head = header::read_header(message);
-    let header = head.verdict;
-    if header.number != 0 {
-        return refuse(header);
-    }
-    let blocks = blocks::nesting(message);
-    if blocks.number != 0 {
-        return refuse(blocks);
-    }
-    let starts = head.starts;
-    let ends = head.ends;
-    let body = table::walk(message, starts, ends);
-    let values = body.verdict;
-    if values.number != 0 {
-        return refuse(values);
-    }
-    let begun = body.starts;
-    let ended = body.ends;
-    judge(message, &begun, &ended)
-}
-
 // The record of a message with nothing wrong up to its values, judged by its kind.
 fn judge<'a, 'b>(message: &'a [u8], starts: &'b [usize], ends: &'b [usize]) -> Reading
     ensures { λ r. ⌜ r ≡ judged (stretchOf (now (message .entry)) (now (starts .entry)) (now (ends .entry))) ⌝ }
@@ -70,4 +39,18 @@ fn judge<'a, 'b>(message: &'a [u8], starts: &'b [usize], ends: &'b [usize]) -> R
         line: kinds.line,
         trade,
     }
+}
+
+// Reads a message.
+pub fn read(message: &[u8]) -> Reading
+    ensures { λ r. ⌜ r ≡ readOf (now (message .entry)) ⌝ }
+{
+    let body = table::take(message);
+    let verdict = body.verdict;
+    if verdict.number != 0 {
+        return refuse(verdict);
+    }
+    let starts = body.starts;
+    let ends = body.ends;
+    judge(message, &starts, &ends)
 }

@@ -1,19 +1,14 @@
--- The MT515's tree is its table, and has what the theorems of sheets ask of a table, by computation.
+-- The MT515's tree has what the theorems of sheets ask of a table, by computation.
 -- Assumes nothing.
 use mathlib.Core.Path.{_≡_, refl}
 use mathlib.Core.Bool.{true}
 use mathlib.Core.List.{[]}
 use Rattle.text.specs.Bytes.{bytes, begins, same}
-use Rattle.sheets.specs.Trees.{chain, fieldRows, memberRows, rowsIn, tableOf}
+use Rattle.sheets.specs.Trees.{chain}
 use Rattle.sheets.specs.Sheets.{has}
 use Rattle.sheets.proofs.Checks.{goodSlot, goodFields, goodMembers, goodTree, clash, avoids, noneOf, apartFields, laterApart, apartMembers, apart, freeFields, freeMembers, free, withFields, withMembers, withTree, onceMembers, once, fieldSlots, ownSlots, memberSlots, slotsOf, disjoint, distinct, soleMembers, sole, allFree, closedMembers, heavy, tellable}
 use Rattle.sheets.specs.Plain.{groupsOf, keysOf}
-use Rattle.table.specs.Table.{table}
 use Rattle.table.specs.Tree.{general, pool, details, tree}
-
-pub table-is : tableOf tree ≡ table
-unfolding tableOf tree general pool details rowsIn memberRows fieldRows bytes table
-table-is = refl
 
 -- every slot has its byte among those seen
 pub good : goodTree tree ≡ true

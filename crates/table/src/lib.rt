@@ -3,8 +3,10 @@
 use walk::Body;
 ghost use mathlib.Core.Path.{_≡_};
 ghost use lib.ListN.{length};
-ghost use Rattle.walk.specs.Walk.{walkOf};
-ghost use Rattle.table.specs.Table.{table, slotOf, fixedOf};
+ghost use Rattle.sheets.specs.Trees.{tableOf};
+ghost use Rattle.reader.specs.Take.{takeOf};
+ghost use Rattle.table.specs.Table.{header, slotOf, fixedOf};
+ghost use Rattle.table.specs.Tree.{tree};
 
 // Sixteen bytes a row: its kind, its slot, the length of its text, the text.
 pub const TABLE: [u8; 624] = *b"\x03\x00\x09:16R:GENL    \
@@ -95,15 +97,11 @@ pub const SLOTS: [u8; 840] = *b"\x00\x00\x00\x00                \
 // The slots of the header's lines.
 pub const HEADER: [u8; 4] = [28, 29, 32, 33];
 
-// The walk over the lines behind the header of an MT515, with the places that are kept already.
-pub fn walk(
-    message: &[u8],
-    starts: [usize; stretches::SLOTS],
-    ends: [usize; stretches::SLOTS],
-) -> Body
-    ensures { λ r. ⌜ r ≡ walkOf table slotOf (now (message .entry)) starts ends ⌝ }
+// Takes an MT515 up to its values: the verdict of 1 to 12, and where the value of each slot begins and ends.
+pub fn take(message: &[u8]) -> Body
+    ensures { λ r. ⌜ r ≡ takeOf (tableOf tree) slotOf header (now (message .entry)) ⌝ }
 {
-    walk::walk(message, &TABLE, &SLOTS, starts, ends)
+    reader::take(message, &HEADER, &TABLE, &SLOTS)
 }
 
 // How long the fixed text of a slot is.

@@ -76,8 +76,8 @@ below slot i = ltb-true slot 34 (every-at (λ n. ltb n 34) (everySlot mt515) slo
 abbrev Named : (ℕ → Type 0) → ℕ → Type 0
 Named P slot = has (everySlot mt515) slot ≡ true → P slot
 
-none : (P : ℕ → Type 0) (slot : ℕ) → has (everySlot mt515) slot ≡ false → Named P slot
-none P slot e i = absurd (true≢false (sym i ∙ e))
+none : {A : Type 0} (slot : ℕ) → has (everySlot mt515) slot ≡ false → has (everySlot mt515) slot ≡ true → A
+none slot e i = absurd (true≢false (sym i ∙ e))
 
 -- ---- code words
 
@@ -200,7 +200,7 @@ module _ (t : Trade) (form : inForm t ≡ true) where
   each-filled : Each (Named (λ slot. Filled mt515 slot (valueOf t slot))) 0 34
   unfolding everySlot optional slotsOf memberSlots ownSlots fieldSlots mustSlots firstSlots header tree general pool details has valueOf values slotOf slots formNumber tests
   each-filled =
-      none _ 0 refl
+      none 0 refl
       ⨾ (λ i. must 1 1 16 (t .seme) (test 1) refl)
       ⨾ (λ i. filled 2 (functionOf (t .kind)) (good-unless _ (function-word (t .kind))))
       ⨾ (λ i. prep)
@@ -222,12 +222,12 @@ module _ (t : Trade) (form : inForm t ≡ true) where
       ⨾ (λ i. must 19 9 9 (t .cusip) (test 19) refl)
       ⨾ (λ i. may 20 9 (t .pool) refl (test 20) refl)
       ⨾ (λ i. told)
-      ⨾ none _ 22 refl
-      ⨾ none _ 23 refl
-      ⨾ none _ 24 refl
-      ⨾ none _ 25 refl
-      ⨾ none _ 26 refl
-      ⨾ none _ 27 refl
+      ⨾ none 22 refl
+      ⨾ none 23 refl
+      ⨾ none 24 refl
+      ⨾ none 25 refl
+      ⨾ none 26 refl
+      ⨾ none 27 refl
       ⨾ (λ i. must 28 0 12 (t .password) (test 28) refl)
       ⨾ (λ i. must 29 1 8 (t .sender) (test 29) refl)
       ⨾ (λ i. filled 30 [] (good-unless true refl))
@@ -275,7 +275,7 @@ module _ (value : ℕ → List ℕ) (h : Held mt515 value) (rules : rulesOf mt51
   kept slot e = (e .0, λ n. e .1)
 
   no-slot : (slot : ℕ) → getD (tests (tradeOf value)) slot true ≡ true → has (everySlot mt515) slot ≡ false → Kept slot
-  no-slot slot a b = (a, none _ slot b)
+  no-slot slot a b = (a, none slot b)
 
   must-text : (slot least most : ℕ) → leb most 20 ≡ true → unless (isCode least most (value slot)) ≡ 0
       → (textForm least most (textOf (value slot)) ≡ true) × (contents (textOf (value slot)) ≡ value slot)

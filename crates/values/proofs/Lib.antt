@@ -4,4 +4,4 @@ pub mod Laws
 pub mod Turns
 pub mod Places
 pub mod Cases
-pub mod Layout
+pub mod Laid
