@@ -2,17 +2,16 @@
 -- written records are their messages.
 -- Assumes nothing.
 use Prim.Native.Nat.{ℕ}
-use mathlib.Core.Path.{_≡_, refl, ap, _∙_}
-use mathlib.Core.List.{List, [], _∷_, map}
-use Rattle.pieces.specs.Pieces.{pieces}
+use mathlib.Core.Path.{refl}
+use mathlib.Core.List.{List}
 use Rattle.pieces.specs.Turns.{Takes}
 use Rattle.pieces.proofs.Cutting as cutting-pieces
-use Rattle.trade.specs.declared.Trade.{Trade}
-use Rattle.mt515.specs.Reading.{readOf}
+use Rattle.mt515.specs.Reading.{told, readOf}
 use Rattle.mt515.specs.declared.Reading.{Reading}
-use Rattle.message.specs.Messages.{messageOf}
-use Rattle.demands.specs.Demands.{accepts, AllWritable, written}
-use Rattle.demands.proofs.Demands.{demands}
+use Rattle.demands.specs.Demands.{written}
+use Rattle.demands.proofs.Demands.{any}
+use Rattle.format.proofs.Batch as Batch
+use Rattle.values.specs.Mt515.{mt515}
 use Rattle.batch.specs.Batch.{saysOf, nextOf, ReadsPieces, ReadsWritten, NoOther, Cutting}
 
 takes : (batch : List ℕ) → Takes readOf batch (λ at. nextOf batch at .turn) (λ at. nextOf batch at .reading) (λ at. nextOf batch at .position)
@@ -24,14 +23,9 @@ reads-pieces batch = cutting-pieces.reads-pieces Reading readOf batch _ _ _ (tak
 
 -- ---- written records are read back
 
-all-back : (ts : List Trade) → AllWritable ts → map readOf (map messageOf ts) ≡ map accepts ts
-all-back [] h = refl
-all-back (t ∷ ts) h = rw (demands .reads-back t (h .0), all-back ts (h .1))
-
 reads-written : ReadsWritten
-reads-written ts h =
-    let e : map readOf (pieces (written ts)) ≡ map accepts ts = ap (map readOf) (demands .cuts-apart ts h) ∙ all-back ts h in
-    rw e at (reads-pieces (written ts))
+unfolding readOf
+reads-written ts h = Batch.reads-written mt515 any Reading told ts h _ _ _ (takes (written ts))
 
 -- ---- and there is no other list
 

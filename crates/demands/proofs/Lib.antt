@@ -1,11 +1,3 @@
-pub mod Nests
-pub mod Codes
-pub mod Said
-pub mod Holds
-pub mod Accepting
-pub mod Plainly
-pub mod Writes
-pub mod Whole
-pub mod Round
+pub mod Laws
 pub mod Demands
 pub mod Answers

@@ -1,6 +1,6 @@
--- The second and the third demand, in the README's order and words, as statements about the definitions. What the functions
+-- The second and the third demand, in the README's order and words, as statements about the MT515's definitions. What the functions
 -- promise ties them to these: `mt515::read` answers readOf, `message::write` answers writeNumber and writeLength and leaves
--- writtenOver. Each is proved in proofs/Demands.
+-- writtenOver. Each is proved in proofs/Demands: they are an instance of format's specs/Demands, which says them of any message type.
 use Prim.Native.Nat.{ℕ, _≤_}
 use mathlib.Core.Path.{_≡_}
 use mathlib.Core.Bool.{true}
@@ -8,7 +8,8 @@ use mathlib.Core.List.{List, [], _∷_, _++_, map}
 use mathlib.Core.Logic.{_↔_, _⊎_}
 use lib.ListN.{length}
 use Rattle.text.specs.Copy.{over}
-use Rattle.pieces.specs.Pieces.{pieces, together}
+use Rattle.pieces.specs.Pieces.{pieces}
+use Rattle.sheets.specs.Sheets.{Entry}
 use Rattle.trade.specs.Records.{tradeOf}
 use Rattle.trade.specs.declared.Kind.{Kind}
 use Rattle.trade.specs.declared.Trade.{Trade}
@@ -17,7 +18,18 @@ use Rattle.mt515.specs.declared.Reading.{Reading}
 use Rattle.message.specs.Messages.{messageOf}
 use Rattle.message.specs.Plain.{plainOf}
 use Rattle.message.specs.Writing.{writeNumber, writeLength, writtenOver, writable}
-use Rattle.demands.specs.Lawful.{saidIn, Lawful}
+use Rattle.format.specs.Lawful as Any
+use Rattle.format.specs.Demands as Every
+use Rattle.values.specs.Mt515.{mt515}
+
+-- a message is lawful where its bytes and endings and its header are as document 01 says and there is a sheet of the layout whose
+-- lines are those behind the header, whose values have their forms, and whose record meets the rules of its kind (format's
+-- specs/Lawful); and what it says of a slot, behind the slot's fixed text
+abbrev pub Lawful : List ℕ → Type 0
+Lawful m = Any.Lawful mt515 m
+
+abbrev pub saidIn : List ℕ → List Entry → ℕ → List ℕ
+saidIn m es slot = Any.saidIn mt515 m es slot
 
 abbrev pub Accepted : List ℕ → Type 0
 Accepted m = readOf m .number ≡ 0
@@ -64,12 +76,11 @@ abbrev pub SameRecord : Type 0
 SameRecord = (m k : List ℕ) → Accepted m → Accepted k → (recordOf m ≡ recordOf k) ↔ (plainOf m ≡ plainOf k)
 
 abbrev pub AllWritable : List Trade → Type 0
-AllWritable [] = Unit
-AllWritable (t ∷ ts) = (writable t ≡ true) × AllWritable ts
+AllWritable ts = Every.AllWritable mt515 ts
 
 -- records that are written, one message after another
 abbrev pub written : List Trade → List ℕ
-written ts = together (map messageOf ts)
+written ts = Every.written mt515 ts
 
 -- Two lists of writable records that differ anywhere are written as different bytes: those that are written alike are one
 abbrev pub WrittenApart : Type 0

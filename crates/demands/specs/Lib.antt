@@ -1,3 +1,2 @@
-pub mod Lawful
 pub mod Demands
 pub mod Answers

@@ -10,20 +10,24 @@ use Rattle.text.specs.Bytes.{bytes, begins, same, before}
 use Rattle.text.specs.Classes.{isBetween}
 use Rattle.lines.specs.Lines.{inFront, cutLines, bare, linesOf, lineAt, startBehind, endOf}
 use Rattle.layout.specs.Layout.{Taken, fits, isSeen, lacks, beneath, against, look, onward, scan, stepOf, withTaken, marked, behind, runOf, layoutOf}
-use Rattle.table.specs.Table.{table, slots, slotOf}
+use Rattle.sheets.specs.Trees.{fieldRows, memberRows, rowsIn, tableOf}
+use Rattle.format.specs.Field as Any
+use Rattle.format.specs.Reading.{bodyOf}
+use Rattle.table.specs.Table.{slots, slotOf}
+use Rattle.table.specs.Tree.{general, pool, details, tree}
+use Rattle.values.specs.Mt515.{mt515}
 use Rattle.search.specs.Search.{noLine, takenFor, spanFrom}
 use Rattle.walk.specs.Walk.{takenIn}
-use Rattle.mt515.specs.Body.{bodyOf}
 use Rattle.mt515.specs.Cases.{b, ended}
 use Rattle.mt515.specs.Reading.{readOf}
 use Rattle.mt515.specs.declared.Reading.{Reading}
 use Rattle.mt515.proofs.Cases.{answered as read-b}
 use Rattle.field.specs.Cases.{fields, offsets, Answered}
-use Rattle.field.specs.Field.{asked, lineFor, frontOf, fieldOf, placeOf}
+use Rattle.field.specs.Field.{frontOf, fieldOf, placeOf}
 
 -- of an accepted message: the line of a slot, its value, and where that begins
 lineIn : List ℕ → ℕ → Taken
-lineIn m slot = cond (isBetween 1 21 slot) (takenFor slot (takenIn (bodyOf m))) noLine
+lineIn m slot = cond (isBetween 1 21 slot) (takenFor slot (takenIn (bodyOf mt515 m))) noLine
 
 valueIn : List ℕ → ℕ → List ℕ
 valueIn m slot = drop (frontOf slot) (lineIn m slot .value)
@@ -33,11 +37,11 @@ offsetIn m slot = endOf m (lineIn m slot .line) - length (valueIn m slot)
 
 module _ (m : List ℕ) (z : readOf m .number ≡ 0) where
   field-in : (slot : ℕ) → fieldOf m slot ≡ valueIn m slot
-  unfolding fieldOf lineFor asked lineIn valueIn
+  unfolding Any.fieldOf Any.lineFor Any.asked readOf lineIn valueIn
   field-in slot = rw z
 
   offset-in : (slot : ℕ) → placeOf m slot .offset ≡ offsetIn m slot
-  unfolding placeOf spanFrom lineFor asked lineIn valueIn offsetIn
+  unfolding placeOf Any.spanIn spanFrom Any.lineFor Any.asked readOf lineIn valueIn offsetIn
   offset-in slot = rw z
 
   fields-in : (rows : List (ℕ × String)) → map (λ (row : ℕ × String). fieldOf m (row .0)) rows ≡ map (λ (row : ℕ × String). valueIn m (row .0)) rows
@@ -50,11 +54,11 @@ accepted =
     (ap (λ (r : Reading). r .number) (head-eq-of-cons-eq e), ap (λ (r : Reading). r .number) (head-eq-of-cons-eq (tail-eq-of-cons-eq e)))
 
 values : map (λ (row : ℕ × String). valueIn (ended "\n" b) (row .0)) fields ≡ map (λ (row : ℕ × String). bytes (row .1)) fields
-unfolding bytes begins same before isBetween inFront cutLines bare linesOf lineAt fits isSeen lacks beneath against look onward scan stepOf withTaken marked behind runOf layoutOf table slots slotOf bodyOf takenIn b ended fields noLine takenFor frontOf startBehind endOf lineIn valueIn
+unfolding bytes begins same before isBetween inFront cutLines bare linesOf lineAt fits isSeen lacks beneath against look onward scan stepOf withTaken marked behind runOf layoutOf fieldRows memberRows rowsIn tableOf general pool details tree slots slotOf bodyOf takenIn b ended fields noLine takenFor Any.frontOf startBehind endOf lineIn valueIn
 values = refl
 
 places : (offsetIn (ended "\n" b) 4 ≡ 108) × (offsetIn (ended "\r\n" b) 4 ≡ 117) × (offsetIn (ended "\n" b) 15 ≡ 306) × (offsetIn (ended "\r\n" b) 21 ≡ 470)
-unfolding bytes begins same before isBetween inFront cutLines bare linesOf lineAt fits isSeen lacks beneath against look onward scan stepOf withTaken marked behind runOf layoutOf table slots slotOf bodyOf takenIn b ended fields noLine takenFor frontOf startBehind endOf lineIn valueIn offsetIn
+unfolding bytes begins same before isBetween inFront cutLines bare linesOf lineAt fits isSeen lacks beneath against look onward scan stepOf withTaken marked behind runOf layoutOf fieldRows memberRows rowsIn tableOf general pool details tree slots slotOf bodyOf takenIn b ended fields noLine takenFor Any.frontOf startBehind endOf lineIn valueIn offsetIn
 places = (refl, refl, refl, refl)
 
 pub answered : Answered

@@ -1,7 +1,8 @@
--- A value that has its slot's form is longer than what stands in front of it: no field that is there is empty.
+-- The fields of an MT515 are slots of its layout, and a value that has its slot's form is longer than what stands in front of the field:
+-- no field that is there is empty.
 -- Assumes nothing.
 use Prim.Native.Nat.{ℕ, _+_, _≤_, _<_}
-use mathlib.Core.Path.{_≡_, refl, ap}
+use mathlib.Core.Path.{_≡_, refl, sym, ap, _∙_}
 use mathlib.Core.Bool.{Bool, true, false, _||_, not, cond}
 use mathlib.Core.List.{List, [], _∷_, _++_, append-nil}
 use native.Mathlib.Omega.{arith}
@@ -18,8 +19,13 @@ use Rattle.forms.specs.Forms.{valueNumber, formNumber, unless, isCode, isWord, 
 use Rattle.forms.specs.Narrative.{isNarrative}
 use Rattle.forms.proofs.Laws.{unless-good}
 use Rattle.table.specs.Table.{slots, slotOf, fixedOf, numberOf}
-use Rattle.demands.proofs.Holds.{number-begins, allBelow, all-at}
-use Rattle.field.specs.Field.{frontOf}
+use Rattle.sheets.specs.Slots.{fieldSlots, ownSlots, memberSlots, slotsOf}
+use Rattle.sheets.specs.Sheets.{has}
+use Rattle.format.specs.Field.{frontOf}
+use Rattle.format.proofs.Tests.{allBelow, all-at, number-form, number-begins}
+use Rattle.format.proofs.Field.{Fields}
+use Rattle.table.specs.Tree.{general, pool, details, tree}
+use Rattle.values.specs.Mt515.{mt515}
 
 -- the numbers of the slots with a value
 named : (slot : ℕ) → isBetween 1 21 slot ≡ true → (1 ≤ slot) × (slot ≤ 21)
@@ -28,13 +34,10 @@ named slot h = (leb-true 1 slot (and-left (leb 1 slot) _ h), leb-true slot 21 (a
 
 -- ---- the narrative
 
-pub told : (v : List ℕ) → numberOf 21 v ≡ 0 → isNarrative (drop (length (fixedOf 21)) v) ≡ true
-unfolding numberOf valueNumber slotOf slots formNumber
-told v h = unless-good _ (rw (number-begins 21 v h) at h)
-
-pub told-begins : (v : List ℕ) → isNarrative v ≡ true → begins (bytes "/TDSV") v ≡ true
-unfolding isNarrative
-told-begins v h = and-left _ _ h
+-- it begins with its word
+pub told-begins : (v : List ℕ) → valueNumber (slotOf 21) (fixedOf 21 ++ v) ≡ 0 → begins (bytes "/TDSV") v ≡ true
+unfolding slotOf slots formNumber isNarrative
+told-begins v h = and-left _ _ (unless-good (isNarrative v) (sym (number-form (slotOf 21) v) ∙ h))
 
 -- ---- every slot
 
@@ -47,21 +50,23 @@ more slot low high h =
 
 -- what follows the fixed text
 behind-fixed : (slot : ℕ) (v : List ℕ) → 1 ≤ slot → slot < 21 → numberOf slot v ≡ 0 → length (fixedOf slot) < length v
-behind-fixed slot v low high h = go (drop (length (fixedOf slot)) v) (begins-is (fixedOf slot) v (number-begins slot v h))
+unfolding numberOf
+behind-fixed slot v low high h = go (drop (length (fixedOf slot)) v) (begins-is (fixedOf slot) v (number-begins (slotOf slot) v h))
   where
     go : (rest : List ℕ) → v ≡ fixedOf slot ++ rest → length (fixedOf slot) < length v
     go [] e = absurd (more slot low high (rw (e, append-nil (fixedOf slot)) at h))
     go (b ∷ rest) e = let l = length-append (fixedOf slot) (b ∷ rest) in let m = ap length e in omega arith
 
 behind-told : (v : List ℕ) → numberOf 21 v ≡ 0 → length (fixedOf 21) + 1 < length v
-unfolding bytes
+unfolding bytes numberOf
 behind-told v h =
-    let l = begins-length (bytes "/TDSV") _ (told-begins (drop (length (fixedOf 21)) v) (told v h)) in
+    let is = begins-is (fixedOf 21) v (number-begins (slotOf 21) v h) in
+    let l = begins-length (bytes "/TDSV") _ (told-begins (drop (length (fixedOf 21)) v) (rw is at h)) in
     let d = length-drop (length (fixedOf 21)) v in
     omega arith
 
-pub behind-front : (slot : ℕ) (v : List ℕ) → isBetween 1 21 slot ≡ true → numberOf slot v ≡ 0 → frontOf slot < length v
-unfolding frontOf
+behind-front : (slot : ℕ) (v : List ℕ) → isBetween 1 21 slot ≡ true → valueNumber (slotOf slot) v ≡ 0 → frontOf mt515 slot < length v
+unfolding frontOf numberOf
 behind-front slot v n h = go (eqb slot 21) refl
   where
     go : (b : Bool) → eqb slot 21 ≡ b → length (fixedOf slot) + cond b 1 0 < length v
@@ -71,3 +76,13 @@ behind-front slot v n h = go (eqb slot 21) refl
         let o = eqb-false slot 21 e in
         let l = behind-fixed slot v low (omega arith) h in
         omega arith
+
+in-layout : (slot : ℕ) → isBetween 1 21 slot ≡ true → has (slotsOf tree) slot ≡ true
+unfolding allBelow slotsOf memberSlots ownSlots fieldSlots tree general pool details has
+in-layout slot n =
+    let (low, high) = named slot n in
+    let t = all-at 22 (λ i. not (leb 1 i) || has (slotsOf tree) i) refl slot (omega arith) in
+    rw (le-leb 1 slot low) at t
+
+pub fields : Fields mt515
+fields = record { are-slots = in-layout; are-some = behind-front }

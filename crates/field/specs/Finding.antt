@@ -9,8 +9,7 @@ use Rattle.text.specs.Bytes.{bytes}
 use Rattle.text.specs.Classes.{isBetween}
 use Rattle.sheets.specs.Sheets.{come, has}
 use Rattle.mt515.specs.Reading.{readOf}
-use Rattle.demands.specs.Lawful.{saidIn, Lawful}
-use Rattle.demands.specs.Demands.{Accepted}
+use Rattle.demands.specs.Demands.{saidIn, Lawful, Accepted}
 use Rattle.field.specs.Field.{fieldOf, placeOf}
 use Rattle.field.specs.declared.Stretch.{Stretch}
 

@@ -1,14 +1,15 @@
 -- What a layout has to be for the demands, as tests that compute; and the rule that each of them gives.
 -- Assumes nothing.
-use Prim.Native.Nat.{ℕ}
+use Prim.Native.Nat.{ℕ, zero, suc, _<_}
 use mathlib.Core.Path.{_≡_, refl, sym, ap, _∙_}
 use mathlib.Core.Bool.{Bool, true, false, _&&_, _||_, not, cond, true≢false}
 use mathlib.Core.List.{List, [], _∷_, _++_, append-assoc, append-nil}
+use native.Mathlib.Nat.{not-suc-le-zero}
 use native.Mathlib.Omega.{arith}
 use lib.Dec.{eqb, leb}
 use lib.ListN.{length, drop}
 use lib.Seq.{drop-append-seam}
-use borrow.Author.Tests.{eqb-true, not-true}
+use borrow.Author.Tests.{eqb-true, eqb-false, not-true}
 use Rattle.text.specs.Bytes.{begins, same, before}
 use Rattle.text.specs.Classes.{isC, inClass, allIn}
 use Rattle.text.specs.declared.Class.the-variants.{C}
@@ -19,7 +20,7 @@ use Rattle.sheets.specs.Trees.{Field, Member, Tree, last, line, block, group}
 use Rattle.sheets.specs.Sheets.{has}
 use Rattle.sheets.specs.Filled.{some}
 use Rattle.sheets.specs.Plain.{Group}
-use Rattle.text.proofs.Bools.{is-false, or-case}
+use Rattle.text.proofs.Bools.{is-false, of-both, or-case}
 use Rattle.sheets.proofs.Checks.{Fit, starts, fitsLine, clash}
 use Rattle.sheets.proofs.Accepts.{clash-apart}
 use Rattle.format.specs.Plain.{tidyBehind, tidyLine}
@@ -34,6 +35,19 @@ pub every-at : (p : ℕ → Bool) (ss : List ℕ) (s : ℕ) → every p ss ≡ t
 unfolding every has
 every-at p [] s h e = absurd (true≢false (sym e))
 every-at p (x ∷ ss) s h e = or-case (eqb x s) (has ss s) e (λ q. rw (← (eqb-true x s q)) (and-left (p x) _ h)) (λ q. every-at p ss s (and-right (p x) _ h) q)
+
+-- a test of all numbers below one
+unfoldable pub allBelow : ℕ → (ℕ → Bool) → Bool
+allBelow zero p = true
+allBelow (suc n) p = p n && allBelow n p
+
+pub all-at : (n : ℕ) (p : ℕ → Bool) → allBelow n p ≡ true → (i : ℕ) → i < n → p i ≡ true
+unfolding allBelow
+all-at zero p h i l = absurd (not-suc-le-zero l)
+all-at (suc n) p h i l =
+    of-both (λ (x : Bool). p i ≡ true) (eqb i n) {x = true} {y = true}
+    (λ e. rw (eqb-true i n e) (and-left (p n) _ h))
+    (λ e. all-at n p (and-right (p n) _ h) i (let d = eqb-false i n e in omega arith))
 
 -- ---- the number of a value
 

@@ -7,3 +7,4 @@ pub mod Plain
 pub mod Asking
 pub mod Demands
 pub mod Field
+pub mod Batch

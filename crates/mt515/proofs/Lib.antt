@@ -1,3 +1,2 @@
-pub mod Heads
 pub mod Chain
 pub mod Cases

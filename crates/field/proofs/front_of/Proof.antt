@@ -4,7 +4,7 @@ use native.Mathlib.Nat.{add-zero}
 use borrow.Author.Needs.{needs}
 use borrow.Author.Tests.{eq-eqb, ne-eqb}
 use Rattle.table.proofs.Laws.{fixed-short}
-use Rattle.field.specs.Field.{frontOf}
+use Rattle.format.specs.Field as Any
 use Rattle.field.proofs.front_of.Statement.{statement}
 use Rattle.field.proofs.front_of.Tie as tie
 
@@ -18,11 +18,11 @@ fixed-length-requires-2 : tie.Need-fixed-length-requires-2
 fixed-length-requires-2 c κs = search needs
 
 returns : tie.Need-returns
-unfolding frontOf
+unfolding Any.frontOf
 returns c = rw (c .fixed-length .ensures, eq-eqb _ _ (c .before .if1 .taken))
 
 returns-2 : tie.Need-returns-2
-unfolding frontOf
+unfolding Any.frontOf
 returns-2 c = rw (c .fixed-length2 .ensures, ne-eqb _ _ (c .before .if1 .left), add-zero)
 
 pub front-of-spec : {M : Type 1} → statement M

@@ -3,7 +3,8 @@ use mathlib.Core.Path.{refl}
 use borrow.Author.Needs.{needs}
 use Rattle.text.specs.Bytes.{bytes, parts}
 use Rattle.layout.specs.Rows.{rowOf, keyOf, firstRow, rowsOf}
-use Rattle.table.specs.Table.{table}
+use Rattle.sheets.specs.Trees.{fieldRows, memberRows, rowsIn, tableOf}
+use Rattle.table.specs.Tree.{general, pool, details, tree}
 use Rattle.field.proofs.Steps.{below-named, above-named, is-named, turned-away, unnamed, searched}
 use Rattle.field.proofs.place.Statement.{statement}
 use Rattle.field.proofs.place.Tie as tie
@@ -44,7 +45,7 @@ find-requires c κs = search needs
 
 -- the bytes that are lent are the table's, by computation
 returns-4 : tie.Need-returns-4
-unfolding bytes parts rowOf keyOf firstRow rowsOf table
+unfolding bytes parts rowOf keyOf firstRow rowsOf tableOf tree general pool details rowsIn memberRows fieldRows
 returns-4 c =
     let t = c .before .before .before in
     let e = t .before .before in
