@@ -1,4 +1,4 @@
--- What is lent for the writing of a record is the MT515's, and what a write answers is a record of two numbers.
+-- What is lent for the writing of a record is the MT515's, and a write answers as one of any message type does.
 -- Assumes nothing.
 use Prim.Native.Nat.{ℕ, _-_, _≤_}
 use mathlib.Core.Path.{_≡_, refl}
@@ -12,11 +12,13 @@ use Rattle.layout.specs.Rows.{rowsOf}
 use Rattle.sheets.specs.Trees.{tableOf}
 use Rattle.sheets.specs.Slots.{slotsOf}
 use Rattle.format.proofs.Tests.{every}
+use Rattle.format.proofs.Demands as Demands
 use Rattle.fill.specs.Runs.{overRun, flat}
 use Rattle.fill.specs.Filling.{lent}
 use Rattle.fill.proofs.Runs.{Put, Run}
 use Rattle.writer.specs.Parts.{messageParts}
 use Rattle.writer.proofs.Messages.{optionalIn, optional-are, put-message}
+use Rattle.writer.proofs.Writes as Any
 use Rattle.writer.proofs.Writes.{Answer}
 use Rattle.trade.specs.declared.Trade.{Trade}
 use Rattle.table.specs.Table.{header, lines}
@@ -26,8 +28,9 @@ use Rattle.values.specs.Mt515.{mt515}
 use Rattle.values.specs.Values.{values, valueOf}
 use Rattle.values.specs.Places.{ends}
 use Rattle.values.proofs.Places.{stretch-held}
+use Rattle.judge.specs.Judging.{judgeOf}
 use Rattle.message.specs.Messages.{messageOf}
-use Rattle.message.specs.Writing.{writingOf, writtenOver}
+use Rattle.message.specs.Writing.{writingOf, writtenOver, writable}
 
 -- ---- what is lent
 
@@ -51,3 +54,10 @@ pub writing-is : (t : Trade) (buf : List ℕ) {n k : ℕ} {now : List ℕ} → A
     → (record { number = n; length = k } ≡ writingOf t (length buf)) × (now ≡ writtenOver t buf)
 unfolding writingOf
 writing-is t buf a = (rw (a .is-number, a .is-length), a .is-over)
+
+pub judged : (t : Trade) (buf : List ℕ) (n : ℕ) → n ≡ judgeOf t → (n ≡ 0 → ⊥)
+    → (record { number = n; length = 0 } ≡ writingOf t (length buf)) × (buf ≡ writtenOver t buf)
+judged t buf n e h = writing-is t buf (Any.judged mt515 t buf n e h)
+
+pub writable-judged : (t : Trade) → writable t ≡ true → judgeOf t ≡ 0
+writable-judged t h = Demands.writable-judged mt515 t h

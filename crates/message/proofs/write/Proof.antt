@@ -2,12 +2,12 @@
 use mathlib.Core.Path.{_≡_, sym, ap, _∙_}
 use lib.ListN.{length, take}
 use Rattle.fill.proofs.Runs.{measured, in-front}
-use Rattle.writer.proofs.Writes.{fits-in, judged, no-room, written}
+use Rattle.writer.proofs.Writes.{fits-in, no-room, written}
 use Rattle.values.specs.Mt515.{mt515}
 use Rattle.judge.specs.Judging.{judgeOf}
 use Rattle.message.specs.Messages.{messageOf}
 use Rattle.message.proofs.Lengths.{message-most}
-use Rattle.message.proofs.Writes.{writing-is}
+use Rattle.message.proofs.Writes.{writing-is, judged}
 use borrow.Author.Needs.{needs}
 use Rattle.message.proofs.write.Statement.{statement}
 use Rattle.message.proofs.write.Tie as tie
@@ -16,9 +16,7 @@ judge-requires : tie.Need-judge-requires
 judge-requires c κs = search needs
 
 returns : tie.Need-returns
-returns c =
-    let a = c .before .before .before .args in
-    writing-is _ _ (judged mt515 (a .trade) (a .buf .now) _ (c .before .judge .ensures) (c .if1 .taken))
+returns c = judged (c .before .before .before .args .trade) (c .before .before .before .args .buf .now) _ (c .before .judge .ensures) (c .if1 .taken)
 
 slice-aggregate-compose : tie.Need-slice-aggregate-compose
 slice-aggregate-compose c = search needs
