@@ -13,7 +13,7 @@ use Rattle.kinds.specs.Kinds.{other, own, contra, stray, lacksField, tddkOnly, 
 use Rattle.values.specs.Values.{kindWord, sideWord, serviceWord, periodText, reasonText, narrative, values, valueOf}
 use Rattle.values.specs.Writable.{prepForm, periodForm, reasonForm, tests, hold, inForm}
 use Rattle.values.specs.Cases.{b}
-use Rattle.judge.specs.Judging.{judgeOf}
+use Rattle.format.specs.Writing.{judgeOf}
 use Rattle.judge.specs.Cases.{trade, cases, Answered}
 
 pub answered : Answered

@@ -9,6 +9,7 @@ use lib.Dec.{ltb}
 use lib.ListN.{length, take, drop}
 use lib.Seq.{drop-drop}
 use borrow.Author.Tests.{lt-ltb, le-ltb}
+use Rattle.format.specs.Writing as Any
 use Rattle.trade.specs.declared.Trade.{Trade}
 use Rattle.lines.specs.Verdicts.{refused, pass, then, when}
 use Rattle.lines.specs.declared.Verdict.{Verdict}
@@ -47,12 +48,12 @@ module _ (t : Trade) where
   narrow = when (ltb 35 (4 + length (valueOf t 21))) 20
 
   pub out-of-form : inForm t ≡ false → 18 ≡ judgeOf t
-  unfolding judgeOf refused
+  unfolding Any.judgeOf refused
   out-of-form e = ap (λ (x : Verdict). x .number) (stops (not (inForm t)) 18 (then (recordPass t) (when (ltb 35 (4 + length (valueOf t 21))) 20)) (ap not e) refl)
 
   module _ (form : inForm t ≡ true) (v : Verdict) (is : v ≡ recordPass t) where
     rules : then v narrow .number ≡ judgeOf t
-    unfolding judgeOf narrow
+    unfolding Any.judgeOf narrow
     rules = ap (λ (x : Verdict). x .number) (ap (λ (p : Verdict). then p narrow) is ∙ goes-on (not (inForm t)) 18 (then (recordPass t) narrow) (ap not form))
 
     pub rule-broken : (v .number ≡ 0 → ⊥) → v .number ≡ judgeOf t

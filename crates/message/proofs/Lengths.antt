@@ -3,18 +3,28 @@
 -- Assumes nothing.
 use Prim.Native.Nat.{ℕ, _+_, _≤_}
 use mathlib.Core.Path.{_≡_, refl, sym, ap}
-use mathlib.Core.Bool.{Bool, true, false, _&&_, _||_, cond, true≢false}
+use mathlib.Core.Bool.{Bool, true, false, _||_, cond, true≢false}
 use mathlib.Core.List.{List, [], _∷_, _++_}
 use native.Mathlib.Omega.{arith}
 use lib.Dec.{eqb}
-use lib.ListN.{length, getD, replicate, length-append, length-replicate, length-take}
-use borrow.Author.Tests.{eqb-true, eqb-false, ltb-false}
+use lib.ListN.{length, length-append, length-take}
+use borrow.Author.Tests.{eqb-true, ltb-false}
 use Rattle.text.specs.Bytes.{bytes}
 use Rattle.text.specs.Texts.{contents}
 use Rattle.text.specs.declared.Text.{Text}
 use Rattle.text.proofs.Bools.{or-left, or-right}
 use Rattle.text.proofs.Laws.{and-right}
 use Rattle.lines.specs.Lines.{joined}
+use Rattle.forms.proofs.Widths as Widths
+use Rattle.forms.proofs.Widths.{formWidth, bounded}
+use Rattle.sheets.specs.Slots.{fieldSlots, ownSlots, memberSlots, slotsOf, firstSlots, mustSlots}
+use Rattle.sheets.specs.Sheets.{lineOf, linesIn, has}
+use Rattle.sheets.specs.Filled.{some, anyField, anyMember, anyIn, filledFields, filledMembers, filled}
+use Rattle.format.specs.Format.{everySlot, optional}
+use Rattle.format.specs.Writing.{headLine, behindIn}
+use Rattle.format.proofs.Tests.{every}
+use Rattle.format.proofs.Lengths as Any
+use Rattle.format.proofs.Lengths.{value-width, wide, bytesOf, within, within-most}
 use Rattle.trade.specs.declared.Kind.{Kind}
 use Rattle.trade.specs.declared.Side.{Side}
 use Rattle.trade.specs.declared.Service.{Service}
@@ -22,22 +32,19 @@ use Rattle.trade.specs.declared.Period.{Period}
 use Rattle.trade.specs.declared.Trade.{Trade}
 use Rattle.kinds.specs.Kinds.{present, hasDays, other, own, contra, stray, tddkOnly, tddkNever, hasForbidden}
 use Rattle.kinds.proofs.Laws.{passes}
-use Rattle.sheets.specs.Sheets.{lineOf, linesIn}
-use Rattle.sheets.specs.Filled.{some, anyField, anyMember, anyIn, filledFields, filledMembers, filled}
 use Rattle.fill.specs.Filling.{isAny}
-use Rattle.table.specs.Table.{slots, slotOf, fixedOf}
+use Rattle.table.specs.Table.{slots, header, slotOf}
 use Rattle.table.specs.Tree.{general, pool, details, tree}
-use Rattle.values.specs.Values.{serviceWord, periodText, reasonText, narrative, values, valueOf, optional}
+use Rattle.values.specs.Mt515.{mt515}
+use Rattle.values.specs.Values.{serviceWord, periodText, reasonText, narrative, values, valueOf}
 use Rattle.values.specs.Writable.{periodForm, tests, inForm}
 use Rattle.values.proofs.Fields.{_⨾_}
 use Rattle.values.proofs.Narratives.{period-short, reason-short}
 use Rattle.values.proofs.Turns.{service-long, narrative-is}
-use Rattle.values.proofs.Laws.{test}
-use Rattle.values.proofs.Widths.{widths, value-width}
+use Rattle.values.proofs.Laws.{test, values-held}
 use Rattle.judge.specs.Judging.{judgeOf}
 use Rattle.judge.proofs.Laws.{judge-zero}
-use Rattle.message.specs.Messages.{behindKey, headerOf, linesFor, messageOf}
-use Rattle.message.proofs.Grows.{size, joined-next, grows}
+use Rattle.message.specs.Messages.{messageOf}
 
 -- ---- how wide the values of a record may be
 
@@ -57,16 +64,7 @@ told Kind.Mdfc = 15
 told Kind.Tddk = 18
 
 unfoldable pub widest : Kind → Side → ℕ → ℕ
-widest kind side slot = cond (isAny (forbidden kind side) slot) 0 (cond (eqb slot 21) (told kind) (getD widths slot 0))
-
--- what stands behind the text of a slot where its value has so many bytes
-unfoldable pub wide : (ℕ → ℕ) → ℕ → List ℕ
-wide most slot = cond (optional slot && eqb (most slot) 0) [] (fixedOf slot ++ replicate {A = ℕ} (most slot) 0)
-
--- the bytes of a message whose values are so wide
-abbrev pub bytesOf : (ℕ → ℕ) → ℕ
-bytesOf most =
-    length (joined (headerOf (replicate {A = ℕ} (most 28) 0) (replicate {A = ℕ} (most 29) 0) ++ linesIn (filled (wide most) tree)))
+widest kind side slot = cond (isAny (forbidden kind side) slot) 0 (cond (eqb slot 21) (told kind) (formWidth (slotOf slot .form)))
 
 unfoldable pub longest : Kind → ℕ
 longest Kind.Inst = 718
@@ -74,59 +72,14 @@ longest Kind.Canc = 770
 longest Kind.Mdfc = 822
 longest Kind.Tddk = 699
 
-pub widest-is : (kind : Kind) (side : Side) → bytesOf (widest kind side) ≡ longest kind
-unfolding longest widest told forbidden widths wide tree general pool details filled filledMembers filledFields anyIn anyMember anyField some linesIn lineOf joined headerOf optional slotOf slots bytes
-widest-is Kind.Inst side = refl
-widest-is Kind.Canc side = refl
-widest-is Kind.Mdfc side = refl
-widest-is Kind.Tddk Side.Buyi = refl
-widest-is Kind.Tddk Side.Sell = refl
-
--- ---- a message whose values are no wider is no longer
-
--- what stands behind the text of a slot
-behind-most : (t : Trade) (most : ℕ → ℕ) → ((slot : ℕ) → length (valueOf t slot) ≤ most slot) → (slot : ℕ) → length (behindKey t slot) ≤ length (wide most slot)
-unfolding behindKey wide
-behind-most t most h slot = go (optional slot) (eqb (length (valueOf t slot)) 0) refl (eqb (most slot) 0) refl
-  where
-    long : length (fixedOf slot ++ valueOf t slot) ≤ length (fixedOf slot ++ replicate {A = ℕ} (most slot) 0)
-    long =
-        let m = h slot in
-        let a = length-append (fixedOf slot) (valueOf t slot) in
-        let b = length-append (fixedOf slot) (replicate {A = ℕ} (most slot) 0) in
-        let c = length-replicate {A = ℕ} (most slot) 0 in
-        omega arith
-
-    go : (o a : Bool) → eqb (length (valueOf t slot)) 0 ≡ a → (b : Bool) → eqb (most slot) 0 ≡ b
-        → length (cond (o && a) [] (fixedOf slot ++ valueOf t slot)) ≤ length (cond (o && b) [] (fixedOf slot ++ replicate {A = ℕ} (most slot) 0))
-    go false a e b f = long
-    go true true e b f = omega arith
-    go true false e false f = long
-    go true false e true f =
-        let m = h slot in
-        let z : ⊥ = omega (arith, eqb-false (length (valueOf t slot)) 0 e, eqb-true (most slot) 0 f) in
-        absurd z
-
-header-grows : (p q : List ℕ) (ls : List (List ℕ)) (most : ℕ → ℕ) → length p ≤ most 28 → length q ≤ most 29
-    → length (joined ls) ≤ size (filled (wide most) tree) → length (joined (headerOf p q ++ ls)) ≤ bytesOf most
-unfolding headerOf
-header-grows p q ls most a b h =
-    let ms = linesIn (filled (wide most) tree) in
-    let k = bytes "515/000/GSCC" in
-    let m = bytes "MBSCTRRS" in
-    let x = replicate {A = ℕ} (most 28) 0 in
-    let y = replicate {A = ℕ} (most 29) 0 in
-    let l1 = joined-next p (q ∷ k ∷ m ∷ ls) in
-    let l2 = joined-next q (k ∷ m ∷ ls) in
-    let l3 = joined-next k (m ∷ ls) in
-    let l4 = joined-next m ls in
-    let r1 = joined-next x (y ∷ k ∷ m ∷ ms) in
-    let r2 = joined-next y (k ∷ m ∷ ms) in
-    let r3 = joined-next k (m ∷ ms) in
-    let r4 = joined-next m ms in
-    let c = length-replicate {A = ℕ} (most 28) 0 in
-    let d = length-replicate {A = ℕ} (most 29) 0 in
-    omega arith
+-- the bytes of a message whose values are so wide
+pub widest-is : (t : Trade) (kind : Kind) (side : Side) → bytesOf mt515 (within mt515 t (widest kind side)) ≡ longest kind
+unfolding longest widest told forbidden formWidth Widths.longest within wide everySlot optional slotsOf memberSlots ownSlots fieldSlots mustSlots firstSlots has header tree general pool details filled filledMembers filledFields anyIn anyMember anyField some linesIn lineOf joined headLine behindIn slotOf slots bytes
+widest-is t Kind.Inst side = refl
+widest-is t Kind.Canc side = refl
+widest-is t Kind.Mdfc side = refl
+widest-is t Kind.Tddk Side.Buyi = refl
+widest-is t Kind.Tddk Side.Sell = refl
 
 -- ---- what is not there has no bytes
 
@@ -216,27 +169,29 @@ module _ (t : Trade) (good : judgeOf t ≡ 0) where
       go ih true h k = rw (eqb-true slot n h) (all .0)
       go ih false h k = ih k
 
-  value-most : (slot : ℕ) → length (valueOf t slot) ≤ widest (t .kind) (t .side) slot
+  are-bounded : every (λ s. bounded (slotOf s .form)) (everySlot mt515) ≡ true
+  unfolding every bounded everySlot slotsOf memberSlots ownSlots fieldSlots header tree general pool details slotOf slots
+  are-bounded = refl
+
+  value-most : (slot : ℕ) → has (everySlot mt515) slot ≡ true → length (valueOf t slot) ≤ widest (t .kind) (t .side) slot
   unfolding widest
-  value-most slot = go (isAny (forbidden (t .kind) (t .side)) slot) refl (eqb slot 21) refl
+  value-most slot i = go (isAny (forbidden (t .kind) (t .side)) slot) refl (eqb slot 21) refl
     where
       all : None (forbidden (t .kind) (t .side)) × Told (told (t .kind))
       all = none-of (t .kind) (t .side) refl allowed
 
       go : (a : Bool) → isAny (forbidden (t .kind) (t .side)) slot ≡ a → (b : Bool) → eqb slot 21 ≡ b
-          → length (valueOf t slot) ≤ cond a 0 (cond b (told (t .kind)) (getD widths slot 0))
+          → length (valueOf t slot) ≤ cond a 0 (cond b (told (t .kind)) (formWidth (slotOf slot .form)))
       go true e b f = none-at (forbidden (t .kind) (t .side)) (all .0) slot e
       go false e true f = rw (eqb-true slot 21 f) (all .1)
-      go false e false f = value-width t form slot
+      go false e false f = value-width mt515 (valueOf t) (values-held t form) are-bounded slot i
 
   pub most-of-kind : length (messageOf t) ≤ longest (t .kind)
-  unfolding messageOf linesFor valueOf values
   most-of-kind =
       let most = widest (t .kind) (t .side) in
-      let e = widest-is (t .kind) (t .side) in
-      let h = header-grows (contents (t .password)) (contents (t .sender)) (linesIn (filled (behindKey t) tree)) most (value-most 28) (value-most 29)
-      (grows (behindKey t) (wide most) (behind-most t most value-most) tree)
-      in omega arith
+      let h = Any.message-most mt515 t (within mt515 t most) (within-most mt515 t most value-most) in
+      let e = widest-is t (t .kind) (t .side) in
+      omega arith
 
   -- the longest of all is an MDFC
   pub message-most : length (messageOf t) ≤ 822

@@ -1,4 +1,3 @@
-pub mod Grows
 pub mod Lengths
 pub mod Writes
 pub mod Cases

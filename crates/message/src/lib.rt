@@ -1,16 +1,11 @@
 // The message of a record, written into a buffer that the caller lends.
 //
 // What is right stands in specs/Messages and specs/Writing.
-use text::Text;
 use trade::Trade;
 ghost use mathlib.Core.Path.{_≡_};
-ghost use mathlib.Core.List.{[], _∷_};
 ghost use Prim.Native.Nat.{_≤_};
 ghost use lib.ListN.{length};
-ghost use Rattle.text.specs.Bytes.{bytes};
-ghost use Rattle.text.specs.Texts.{contents};
 ghost use Rattle.text.specs.Copy.{placed, after};
-ghost use Rattle.fill.specs.Runs.{overRun, behindRun};
 ghost use Rattle.message.specs.Messages.{messageOf};
 ghost use Rattle.message.specs.Writing.{writingOf, writtenOver};
 
@@ -20,19 +15,8 @@ pub struct Writing {
     pub length: usize,
 }
 
-// The four lines of the header.
-fn put_header(buf: &mut [u8], password: Text, sender: Text) -> usize
-    ensures { λ r. ⌜ (r ≡ behindRun (now (buf .entry)) 0 (contents password ∷ bytes "\r\n" ∷ contents sender ∷ bytes "\r\n515/000/GSCC\r\nMBSCTRRS\r\n" ∷ []))
-        × (now (buf .exit) ≡ overRun (now (buf .entry)) 0 (contents password ∷ bytes "\r\n" ∷ contents sender ∷ bytes "\r\n515/000/GSCC\r\nMBSCTRRS\r\n" ∷ [])) ⌝ }
-{
-    let first = text::put_text(buf, 0, password);
-    let line = text::put(buf, first, b"\r\n");
-    let second = text::put_text(buf, line, sender);
-    text::put(buf, second, b"\r\n515/000/GSCC\r\nMBSCTRRS\r\n")
-}
-
-// The message of a record, into a buffer that has room for it. Its values are put into a text once, and lent with the table's
-// bytes to the walk over the rows, so that neither the record nor a table is copied at each row.
+// The message of a record, into a buffer that has room for it. Its values are put into a text once, and lent with the bytes of the
+// header, the table and the slots, so that neither the record nor a table is copied at each row.
 fn compose(buf: &mut [u8], trade: Trade) -> usize
     requires { ⌜ length (messageOf trade) ≤ length (now buf) ⌝ }
     ensures { λ r. ⌜ (r ≡ after (now (buf .entry)) 0 (messageOf trade)) × (now (buf .exit) ≡ placed (now (buf .entry)) 0 (messageOf trade)) ⌝ }
@@ -40,11 +24,10 @@ fn compose(buf: &mut [u8], trade: Trade) -> usize
     let mut text = [0u8; 398];
     let mut places = [0usize; 31];
     values::put_values(&mut text, &mut places, trade);
-    let at = put_header(buf, trade.password, trade.sender);
     let starts: &[usize] = &places;
-    fill::put_rows(
+    writer::put_message(
         buf,
-        at,
+        &table::HEADER,
         &table::TABLE,
         &table::SLOTS,
         &values::OPTIONAL,

@@ -1,2 +1,4 @@
 pub mod Turns
 pub mod Laws
+pub mod Messages
+pub mod Writes

@@ -1,12 +1,19 @@
--- `message::compose` meets its contract: the bytes that are lent are the table and its slots, by computation. Assumes nothing.
+-- `message::compose` meets its contract: the bytes that are lent are the header, the table and its slots, by computation. Assumes nothing.
 use mathlib.Core.Path.{_≡_, refl, sym, ap}
 use native.Mathlib.Omega.{arith}
 use lib.ListN.{length}
 use Rattle.text.specs.Bytes.{bytes, parts}
 use Rattle.forms.specs.Slots.{reaches, lineIn, textIn, wordsIn, formOf, formIn, slotAt}
 use Rattle.layout.specs.Rows.{rowOf, keyOf, firstRow, rowsOf}
-use Rattle.table.specs.Table.{table, slots}
-use Rattle.values.specs.Values.{values, optional}
+use Rattle.sheets.specs.Trees.{fieldRows, memberRows, rowsIn, tableOf}
+use Rattle.sheets.specs.Slots.{fieldSlots, ownSlots, memberSlots, slotsOf, firstSlots, mustSlots}
+use Rattle.sheets.specs.Sheets.{has}
+use Rattle.format.specs.Format.{optional}
+use Rattle.format.proofs.Tests.{every}
+use Rattle.writer.proofs.Messages.{optionalIn}
+use Rattle.table.specs.Table.{header, slots}
+use Rattle.table.specs.Tree.{general, pool, details, tree}
+use Rattle.values.specs.Values.{values}
 use Rattle.values.specs.Places.{ends}
 use Rattle.message.proofs.Writes.{put-whole, values-lent}
 use borrow.Author.Needs.{needs}
@@ -24,46 +31,46 @@ slice-aggregate-put-values c = search needs
 put-values-requires : tie.Need-put-values-requires
 put-values-requires c κs = search needs
 
-put-header-requires : tie.Need-put-header-requires
-put-header-requires c κs = search needs
-
 slice-aggregate-starts : tie.Need-slice-aggregate-starts
-slice-aggregate-starts c = sym (many (c .before .before .before .before .before .before))
+slice-aggregate-starts c = sym (many (c .before .before))
 
-slice-aggregate-put-rows : tie.Need-slice-aggregate-put-rows
-slice-aggregate-put-rows c = search needs
+slice-aggregate-put-message : tie.Need-slice-aggregate-put-message
+slice-aggregate-put-message c = search needs
 
-slice-aggregate-put-rows-2 : tie.Need-slice-aggregate-put-rows-2
-slice-aggregate-put-rows-2 c = search needs
+slice-aggregate-put-message-2 : tie.Need-slice-aggregate-put-message-2
+slice-aggregate-put-message-2 c = search needs
 
-slice-aggregate-put-rows-3 : tie.Need-slice-aggregate-put-rows-3
-slice-aggregate-put-rows-3 c = search needs
+slice-aggregate-put-message-3 : tie.Need-slice-aggregate-put-message-3
+slice-aggregate-put-message-3 c = search needs
 
-slice-aggregate-put-rows-4 : tie.Need-slice-aggregate-put-rows-4
-slice-aggregate-put-rows-4 c = search needs
+slice-aggregate-put-message-4 : tie.Need-slice-aggregate-put-message-4
+slice-aggregate-put-message-4 c = search needs
 
-sub-put-rows : tie.Need-sub-put-rows
-sub-put-rows c = omega (arith, many (c .before .before .before .before .before .before .before .before .before .before .before))
+slice-aggregate-put-message-5 : tie.Need-slice-aggregate-put-message-5
+slice-aggregate-put-message-5 c = search needs
 
-part-put-rows-start : tie.Need-part-put-rows-start
-part-put-rows-start c = omega (arith, many (c .before .before .before .before .before .before .before .before .before .before .before))
+sub-put-message : tie.Need-sub-put-message
+sub-put-message c = omega (arith, many (c .before .before .before .before .before .before .before .before))
 
-part-put-rows-end : tie.Need-part-put-rows-end
-part-put-rows-end c = search needs
+part-put-message-start : tie.Need-part-put-message-start
+part-put-message-start c = omega (arith, many (c .before .before .before .before .before .before .before .before))
 
-put-rows-requires : tie.Need-put-rows-requires
-put-rows-requires c κs = search needs
+part-put-message-end : tie.Need-part-put-message-end
+part-put-message-end c = search needs
+
+put-message-requires : tie.Need-put-message-requires
+put-message-requires c κs = search needs
 
 same-length : tie.Need-same-length
 same-length c = search needs
 
 returns : tie.Need-returns
-unfolding bytes parts reaches lineIn textIn wordsIn formOf formIn slotAt slots rowOf keyOf firstRow rowsOf table optional
+unfolding bytes parts reaches lineIn textIn wordsIn formOf formIn slotAt header slots rowOf keyOf firstRow rowsOf tableOf tree general pool details rowsIn memberRows fieldRows every optionalIn optional slotsOf memberSlots ownSlots fieldSlots mustSlots firstSlots has
 returns c =
-    let v = c .before .before .before .before .before .before .before .before .before .before .before .before .before .before .before in
+    let v = c .before .before .before .before .before .before .before .before .before .before .before .before in
     let s = v .before .before .before .before in
     let e = v .put-values .ensures in
-    put-whole (s .args .trade) (s .args .buf .now) _ _ _ _ _ _ (c .before .before .before .before .before .before .before .before .before .before .before .before .put-header .ensures) (c .before .before .put-rows .ensures) (s .pre) refl refl refl (λ n. refl)
+    put-whole (s .args .trade) (s .args .buf .now) _ _ _ _ _ _ (c .before .before .put-message .ensures) (s .pre) refl refl refl refl
     (values-lent (s .args .trade) _ _ _ (e .0) (e .1) (e .2))
 
 pub compose-spec : {M : Type 1} → statement M
@@ -72,15 +79,15 @@ compose-spec =
     (tie.spec
     slice-aggregate-put-values
     put-values-requires
-    put-header-requires
     slice-aggregate-starts
-    slice-aggregate-put-rows
-    slice-aggregate-put-rows-2
-    slice-aggregate-put-rows-3
-    slice-aggregate-put-rows-4
-    sub-put-rows
-    part-put-rows-start
-    part-put-rows-end
-    put-rows-requires
+    slice-aggregate-put-message
+    slice-aggregate-put-message-2
+    slice-aggregate-put-message-3
+    slice-aggregate-put-message-4
+    slice-aggregate-put-message-5
+    sub-put-message
+    part-put-message-start
+    part-put-message-end
+    put-message-requires
     same-length
     returns)

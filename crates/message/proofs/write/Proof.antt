@@ -1,10 +1,13 @@
 -- `message::write` meets its contract: the message is composed in 822 bytes, which have room for it. Assumes nothing.
 use mathlib.Core.Path.{_≡_, sym, ap, _∙_}
 use lib.ListN.{length, take}
+use Rattle.fill.proofs.Runs.{measured, in-front}
+use Rattle.writer.proofs.Writes.{fits-in, no-room, written}
+use Rattle.values.specs.Mt515.{mt515}
 use Rattle.judge.specs.Judging.{judgeOf}
 use Rattle.message.specs.Messages.{messageOf}
 use Rattle.message.proofs.Lengths.{message-most}
-use Rattle.message.proofs.Writes.{composed, message-is, fits-in, judged, no-room, written}
+use Rattle.message.proofs.Writes.{writing-is, judged}
 use borrow.Author.Needs.{needs}
 use Rattle.message.proofs.write.Statement.{statement}
 use Rattle.message.proofs.write.Tie as tie
@@ -27,16 +30,16 @@ compose-requires c κs = message-most _ (good (c .before))
 
 -- what was composed is as long as the message
 long : (c : tie.After-compose) → c .compose .result ≡ length (messageOf (c .before .before .before .before .before .args .trade))
-long c = composed _ _ (c .compose .ensures) (message-most _ (good (c .before .before)))
+long c = measured _ _ (c .compose .ensures .0) (message-most _ (good (c .before .before)))
 
 -- and is the message
 front : (c : tie.After-compose) → take (c .compose .result) (c .compose .last .0) ≡ messageOf (c .before .before .before .before .before .args .trade)
-front c = message-is _ _ (c .compose .ensures) (message-most _ (good (c .before .before)))
+front c = in-front _ _ (c .compose .ensures) (message-most _ (good (c .before .before)))
 
 returns-2 : tie.Need-returns-2
 returns-2 c =
     let m = c .before .before in
-    no-room _ _ (good (m .before .before)) _ (long m) (c .if2 .taken)
+    writing-is _ _ (no-room mt515 _ _ (good (m .before .before)) _ (long m) (c .if2 .taken))
 
 array-share-prefix-message : tie.Need-array-share-prefix-message
 array-share-prefix-message c =
@@ -57,8 +60,8 @@ same-length c = search needs
 returns-3 : tie.Need-returns-3
 returns-3 c =
     let m = c .before .before .before .before .before .before .before in
-    written _ _ (good (m .before .before)) _ (long m) (c .before .before .before .before .before .if2 .left) _
-    (c .before .before .put .ensures .1 ∙ rw (front m))
+    writing-is _ _
+    (written mt515 _ _ (good (m .before .before)) _ (long m) (c .before .before .before .before .before .if2 .left) _ (c .before .before .put .ensures .1 ∙ rw (front m)))
 
 pub write-spec : {M : Type 1} → statement M
 write-spec =
