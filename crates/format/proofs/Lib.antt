@@ -14,3 +14,5 @@ pub mod Numbers
 pub mod Field
 pub mod Grows
 pub mod Lengths
+pub mod Specimen
+pub mod Cases

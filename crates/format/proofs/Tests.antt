@@ -23,6 +23,7 @@ use Rattle.text.proofs.Bools.{is-false, or-case}
 use Rattle.sheets.proofs.Checks.{Fit, starts, fitsLine, clash}
 use Rattle.sheets.proofs.Accepts.{clash-apart}
 use Rattle.format.specs.Plain.{tidyBehind, tidyLine}
+unfoldable pub use Rattle.format.specs.Plain.{tidied}
 
 -- ---- a test of each of some slots, and of each of some texts
 
@@ -118,7 +119,7 @@ never-begins slot z l h e =
 pub same-begins : (z l : List ℕ) → begins z l ≡ false → same z l ≡ false
 same-begins z l h = is-false (same z l) (λ e. true≢false (sym (rw (append-nil z) at (begins-append z [])) ∙ ap (begins z) (same-eq z l e) ∙ h))
 
--- ---- the plain form of a value: an amount that is there is tidied, and nothing else changes
+-- ---- the plain form of a value
 
 unfoldable pub isAmountForm : Form → Bool
 isAmountForm nothing = false
@@ -129,16 +130,6 @@ isAmountForm date = false
 isAmountForm moment = false
 isAmountForm narrative = false
 isAmountForm other = false
-
-unfoldable pub tidied : Form → List ℕ → List ℕ
-tidied nothing v = v
-tidied (codes least most) v = v
-tidied (words ws) v = v
-tidied amount v = cond (some v) (tidy v) []
-tidied date v = v
-tidied moment v = v
-tidied narrative v = v
-tidied other v = v
 
 -- what is no amount stays as it is
 pub tidied-same : (form : Form) (v : List ℕ) → isAmountForm form ≡ false → tidied form v ≡ v

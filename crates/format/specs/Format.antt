@@ -10,6 +10,10 @@ use Rattle.sheets.specs.Slots.{slotsOf, mustSlots}
 use Rattle.sheets.specs.Sheets.{has}
 use Rattle.sheets.specs.Plain.{Group}
 
+-- a slot of a layout that a message may be without
+abbrev pub mayLack : Tree → ℕ → Bool
+mayLack t s = has (slotsOf t) s && not (has (mustSlots t) s)
+
 pub record Format : Type 1 where
   -- what a message looks like: the slots of the four lines of its header, the layout of the lines behind them, and what stands in
   -- each slot
@@ -40,6 +44,6 @@ module _ (F : Format) where
   unfoldable pub everySlot : List ℕ
   everySlot = F .header ++ slotsOf (F .tree)
 
-  -- a slot of the layout that a message may be without
+  -- a slot that a message of this type may be without
   unfoldable pub optional : ℕ → Bool
-  optional s = has (slotsOf (F .tree)) s && not (has (mustSlots (F .tree)) s)
+  optional s = mayLack (F .tree) s

@@ -7,3 +7,5 @@ pub mod Plain
 pub mod Asking
 pub mod Demands
 pub mod Field
+pub mod Specimen
+pub mod Cases
