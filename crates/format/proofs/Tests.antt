@@ -19,22 +19,25 @@ use Rattle.sheets.specs.Trees.{Field, Member, Tree, last, line, block, group}
 use Rattle.sheets.specs.Sheets.{has}
 use Rattle.sheets.specs.Filled.{some}
 use Rattle.sheets.specs.Plain.{Group}
-use Rattle.text.proofs.Bools.{is-false, or-case}
+use Rattle.text.proofs.Bools.{is-false, or-case, or-two}
 use Rattle.sheets.proofs.Checks.{Fit, starts, fitsLine, clash}
 use Rattle.sheets.proofs.Accepts.{clash-apart}
+use Rattle.sheets.proofs.Emits.{has-front}
 use Rattle.format.specs.Plain.{tidyBehind, tidyLine}
+unfoldable pub use Rattle.format.specs.Format.{every}
 unfoldable pub use Rattle.format.specs.Plain.{tidied}
 
 -- ---- a test of each of some slots, and of each of some texts
-
-unfoldable pub every : {A : Type 0} → (A → Bool) → List A → Bool
-every p [] = true
-every p (x ∷ xs) = p x && every p xs
 
 pub every-at : (p : ℕ → Bool) (ss : List ℕ) (s : ℕ) → every p ss ≡ true → has ss s ≡ true → p s ≡ true
 unfolding every has
 every-at p [] s h e = absurd (true≢false (sym e))
 every-at p (x ∷ ss) s h e = or-case (eqb x s) (has ss s) e (λ q. rw (← (eqb-true x s q)) (and-left (p x) _ h)) (λ q. every-at p ss s (and-right (p x) _ h) q)
+
+pub every-of : (p : ℕ → Bool) (ss : List ℕ) → ((s : ℕ) → has ss s ≡ true → p s ≡ true) → every p ss ≡ true
+unfolding every has
+every-of p [] h = refl
+every-of p (x ∷ ss) h = and-both (h x (has-front x ss)) (every-of p ss (λ s i. h s (or-two (eqb x s) _ i)))
 
 -- ---- the number of a value
 

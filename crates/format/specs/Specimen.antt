@@ -14,7 +14,7 @@ use Rattle.forms.specs.Forms.{Form, Slot, nothing, codes, words, amount, other,
 use Rattle.sheets.specs.Trees.{Field, Member, Tree, last, line, block, group}
 use Rattle.sheets.specs.Filled.{some}
 use Rattle.sheets.specs.Plain.{Group}
-use Rattle.format.specs.Format.{Format, mayLack}
+use Rattle.format.specs.Format.{Format, every, mayLack}
 use Rattle.format.specs.Plain.{tidied}
 
 abbrev must : Bool
@@ -124,17 +124,13 @@ alike (v ∷ vs) (w ∷ ws) = same v w && alike vs ws
 unfoldable pub isFilled : ℕ → List ℕ → Bool
 isFilled s v = (mayLack tree s && eqb (length v) 0) || eqb (valueNumber (slotOf s) (slotOf s .fixed ++ v)) 0
 
-unfoldable pub allFilled : (ℕ → List ℕ) → List ℕ → Bool
-allFilled value [] = true
-allFilled value (s ∷ ss) = isFilled s (value s) && allFilled value ss
-
 unfoldable pub together : List ℕ → List ℕ → Bool
 together v w = cond (some v) (some w) (not (some w))
 
 unfoldable pub inForm : List (List ℕ) → Bool
 inForm r =
     let value = valueOf r in
-    alike (recordOf value) r && (allFilled value named && (together (value 10) (value 11) && together (value 12) (value 13)))
+    alike (recordOf value) r && (every (λ s. isFilled s (value s)) named && (together (value 10) (value 11) && together (value 12) (value 13)))
 
 -- ---- the message type: it has no rules of line 0
 
@@ -153,7 +149,7 @@ specimen =
       writeRules = λ r. pass;
       groups = links ∷ [];
       fronts = fronts;
-      longest = 417;
+      longest = 423;
       fields = 13;
       beyond = λ s. 0;
     }
