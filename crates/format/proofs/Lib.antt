@@ -16,3 +16,5 @@ pub mod Grows
 pub mod Lengths
 pub mod Asking
 pub mod Batch
+pub mod Specimen
+pub mod Cases

@@ -47,7 +47,7 @@ map-append : (g : List ℕ → List ℕ) (ls ks : List (List ℕ)) → map g (ls
 map-append g [] ks = refl
 map-append g (l ∷ ls) ks = ap (λ (y : List (List ℕ)). g l ∷ y) (map-append g ls ks)
 
-map-same : (f g : ℕ → List ℕ) (hs : List ℕ) → ((s : ℕ) → has hs s ≡ true → f s ≡ g s) → map f hs ≡ map g hs
+pub map-same : (f g : ℕ → List ℕ) (hs : List ℕ) → ((s : ℕ) → has hs s ≡ true → f s ≡ g s) → map f hs ≡ map g hs
 unfolding has
 map-same f g [] h = refl
 map-same f g (s ∷ hs) h = rw (h s (has-front s hs)) (ap (λ (y : List (List ℕ)). g s ∷ y) (map-same f g hs (λ x e. h x (or-two (eqb s x) _ e))))

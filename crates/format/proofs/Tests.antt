@@ -20,21 +20,25 @@ use Rattle.sheets.specs.Trees.{Field, Member, Tree, last, line, block, group}
 use Rattle.sheets.specs.Sheets.{has}
 use Rattle.sheets.specs.Filled.{some}
 use Rattle.sheets.specs.Plain.{Group}
-use Rattle.text.proofs.Bools.{is-false, of-both, or-case}
+use Rattle.text.proofs.Bools.{is-false, of-both, or-case, or-two}
 use Rattle.sheets.proofs.Checks.{Fit, starts, fitsLine, clash}
 use Rattle.sheets.proofs.Accepts.{clash-apart}
+use Rattle.sheets.proofs.Emits.{has-front}
 use Rattle.format.specs.Plain.{tidyBehind, tidyLine}
+unfoldable pub use Rattle.format.specs.Format.{every}
+unfoldable pub use Rattle.format.specs.Plain.{tidied}
 
 -- ---- a test of each of some slots, and of each of some texts
-
-unfoldable pub every : {A : Type 0} → (A → Bool) → List A → Bool
-every p [] = true
-every p (x ∷ xs) = p x && every p xs
 
 pub every-at : (p : ℕ → Bool) (ss : List ℕ) (s : ℕ) → every p ss ≡ true → has ss s ≡ true → p s ≡ true
 unfolding every has
 every-at p [] s h e = absurd (true≢false (sym e))
 every-at p (x ∷ ss) s h e = or-case (eqb x s) (has ss s) e (λ q. rw (← (eqb-true x s q)) (and-left (p x) _ h)) (λ q. every-at p ss s (and-right (p x) _ h) q)
+
+pub every-of : (p : ℕ → Bool) (ss : List ℕ) → ((s : ℕ) → has ss s ≡ true → p s ≡ true) → every p ss ≡ true
+unfolding every has
+every-of p [] h = refl
+every-of p (x ∷ ss) h = and-both (h x (has-front x ss)) (every-of p ss (λ s i. h s (or-two (eqb x s) _ i)))
 
 -- a test of all numbers below one
 unfoldable pub allBelow : ℕ → (ℕ → Bool) → Bool
@@ -132,7 +136,7 @@ never-begins slot z l h e =
 pub same-begins : (z l : List ℕ) → begins z l ≡ false → same z l ≡ false
 same-begins z l h = is-false (same z l) (λ e. true≢false (sym (rw (append-nil z) at (begins-append z [])) ∙ ap (begins z) (same-eq z l e) ∙ h))
 
--- ---- the plain form of a value: an amount that is there is tidied, and nothing else changes
+-- ---- the plain form of a value
 
 unfoldable pub isAmountForm : Form → Bool
 isAmountForm nothing = false
@@ -143,16 +147,6 @@ isAmountForm date = false
 isAmountForm moment = false
 isAmountForm narrative = false
 isAmountForm other = false
-
-unfoldable pub tidied : Form → List ℕ → List ℕ
-tidied nothing v = v
-tidied (codes least most) v = v
-tidied (words ws) v = v
-tidied amount v = cond (some v) (tidy v) []
-tidied date v = v
-tidied moment v = v
-tidied narrative v = v
-tidied other v = v
 
 -- what is no amount stays as it is
 pub tidied-same : (form : Form) (v : List ℕ) → isAmountForm form ≡ false → tidied form v ≡ v

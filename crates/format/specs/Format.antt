@@ -1,14 +1,23 @@
 -- A message type as data: what its messages look like, what is held of them, and what ties the two. All that is said here of a
 -- message type is said of any of them.
 use Prim.Native.Nat.{ℕ}
-use mathlib.Core.Bool.{Bool, _&&_, not}
-use mathlib.Core.List.{List, _++_}
+use mathlib.Core.Bool.{Bool, true, _&&_, not}
+use mathlib.Core.List.{List, [], _∷_, _++_}
 use Rattle.lines.specs.declared.Verdict.{Verdict}
 use Rattle.forms.specs.Forms.{Slot}
 use Rattle.sheets.specs.Trees.{Tree}
 use Rattle.sheets.specs.Slots.{slotsOf, mustSlots}
 use Rattle.sheets.specs.Sheets.{has}
 use Rattle.sheets.specs.Plain.{Group}
+
+-- a test of each
+unfoldable pub every : {A : Type 0} → (A → Bool) → List A → Bool
+every p [] = true
+every p (x ∷ xs) = p x && every p xs
+
+-- a slot of a layout that a message may be without
+abbrev pub mayLack : Tree → ℕ → Bool
+mayLack t s = has (slotsOf t) s && not (has (mustSlots t) s)
 
 pub record Format : Type 1 where
   -- what a message looks like: the slots of the four lines of its header, the layout of the lines behind them, and what stands in
@@ -40,6 +49,6 @@ module _ (F : Format) where
   unfoldable pub everySlot : List ℕ
   everySlot = F .header ++ slotsOf (F .tree)
 
-  -- a slot of the layout that a message may be without
+  -- a slot that a message of this type may be without
   unfoldable pub optional : ℕ → Bool
-  optional s = has (slotsOf (F .tree)) s && not (has (mustSlots (F .tree)) s)
+  optional s = mayLack (F .tree) s

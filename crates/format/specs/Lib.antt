@@ -8,3 +8,5 @@ pub mod Asking
 pub mod Demands
 pub mod Field
 pub mod Batch
+pub mod Specimen
+pub mod Cases

@@ -7,8 +7,21 @@ use lib.ListN.{length, drop}
 use Rattle.text.specs.Bytes.{begins}
 use Rattle.lines.specs.Lines.{linesOf, joined}
 use Rattle.amount.specs.Amounts.{tidy}
+use Rattle.forms.specs.Forms.{Form, nothing, codes, words, amount, date, moment, narrative, other}
+use Rattle.sheets.specs.Filled.{some}
 use Rattle.sheets.specs.Plain.{inOrder}
 use Rattle.format.specs.Format.{Format}
+
+-- of a value by its form: an amount that is there is tidied, and nothing else changes
+unfoldable pub tidied : Form → List ℕ → List ℕ
+tidied nothing v = v
+tidied (codes least most) v = v
+tidied (words ws) v = v
+tidied amount v = cond (some v) (tidy v) []
+tidied date v = v
+tidied moment v = v
+tidied narrative v = v
+tidied other v = v
 
 -- in an amount that stands behind a text needless noughts go
 unfoldable pub tidyBehind : List ℕ → List ℕ → List ℕ
