@@ -10,30 +10,14 @@ use lib.Dec.{eqb}
 use lib.ListN.{length, getD}
 use Rattle.text.specs.Bytes.{bytes, same}
 use Rattle.lines.specs.Verdicts.{pass}
-use Rattle.forms.specs.Forms.{Form, Slot, nothing, codes, words, amount, other, valueNumber}
-use Rattle.sheets.specs.Trees.{Field, Member, Tree, last, line, block, group}
+use Rattle.forms.specs.Forms.{Slot, nothing, codes, amount, other, valueNumber}
+use Rattle.forms.specs.Notation.{slot, oneOf}
+use Rattle.sheets.specs.Trees.{Tree, last, line, block, group}
+use Rattle.sheets.specs.Notation.{must, may, field, link}
 use Rattle.sheets.specs.Filled.{some}
 use Rattle.sheets.specs.Plain.{Group}
 use Rattle.format.specs.Format.{Format, every, mayLack}
 use Rattle.format.specs.Plain.{tidied}
-
-abbrev must : Bool
-must = true
-
-abbrev may : Bool
-may = false
-
-abbrev slot : String → Form → Slot
-slot fixed form = record { fixed = bytes fixed; form = form }
-
-abbrev oneOf : List String → Form
-oneOf ws = words (map bytes ws)
-
-abbrev field : Bool → ℕ → String → Field
-field m s k = record { must = m; slot = s; key = bytes k }
-
-abbrev link : ℕ → String → Member
-link s k = record { slot = s; key = bytes k; inside = [] }
 
 -- ---- what stands in each slot
 

@@ -1,6 +1,7 @@
 pub mod Codes
 pub mod Narrative
 pub mod Forms
+pub mod Notation
 pub mod Slots
 pub mod Cases
 pub mod Samples

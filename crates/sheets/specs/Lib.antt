@@ -1,4 +1,5 @@
 pub mod Trees
+pub mod Notation
 pub mod Slots
 pub mod Sheets
 pub mod Filled

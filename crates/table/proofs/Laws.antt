@@ -11,7 +11,8 @@ use borrow.Author.Tests.{leb-true}
 use Rattle.text.specs.Bytes.{bytes}
 use Rattle.text.proofs.Laws.{and-left, and-right}
 use Rattle.forms.specs.Forms.{Slot, other}
-use Rattle.table.specs.Table.{slots, lines, slotOf, slot, fixedOf}
+use Rattle.forms.specs.Notation.{slot}
+use Rattle.table.specs.Table.{slots, lines, slotOf, fixedOf}
 
 -- a fixed text has at most sixteen bytes: one test over all slots, and the rule at each
 abbrev short : List Slot → Bool

@@ -3,25 +3,11 @@
 -- stands where is specs/Tree.
 use Prim.Native.Nat.{ℕ}
 use Prim.Native.String.{String}
-use mathlib.Core.Bool.{Bool, true, false}
 use mathlib.Core.List.{List, [], _∷_, _++_, map}
 use lib.ListN.{getD}
 use Rattle.text.specs.Bytes.{bytes}
-use Rattle.forms.specs.Forms.{Form, Slot, nothing, codes, words, amount, date, moment, narrative, other, valueNumber}
-
-abbrev pub must : Bool
-must = true
-
-abbrev pub may : Bool
-may = false
-
--- ---- the value of a slot: the fixed text behind the qualifier, and the form of what follows it
-
-abbrev pub slot : String → Form → Slot
-slot fixed form = record { fixed = bytes fixed; form = form }
-
-abbrev pub oneOf : List String → Form
-oneOf ws = words (map bytes ws)
+use Rattle.forms.specs.Forms.{Slot, nothing, codes, amount, date, moment, narrative, other, valueNumber}
+use Rattle.forms.specs.Notation.{slot, oneOf}
 
 abbrev pub reference : Slot
 reference = slot "//" (codes 1 16)

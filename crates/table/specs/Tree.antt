@@ -1,17 +1,11 @@
 -- Document 01, "The slots, in order": the table of the MT515 as the blocks that its rows make.
 use Prim.Native.Nat.{ℕ}
 use Prim.Native.String.{String}
-use mathlib.Core.Bool.{Bool, true, false}
+use mathlib.Core.Bool.{true, false}
 use mathlib.Core.List.{List, [], _∷_}
 use Rattle.text.specs.Bytes.{bytes}
-use Rattle.sheets.specs.Trees.{Field, Member, Tree, last, line, block, group}
-use Rattle.table.specs.Table.{must, may}
-
-abbrev pub field : Bool → ℕ → String → Field
-field m s k = record { must = m; slot = s; key = bytes k }
-
-abbrev pub link : ℕ → String → Member
-link s k = record { slot = s; key = bytes k; inside = [] }
+use Rattle.sheets.specs.Trees.{Member, Tree, last, line, block, group}
+use Rattle.sheets.specs.Notation.{must, may, field, link}
 
 -- a party, with its contra reference and its trader
 abbrev pub party : ℕ → String → ℕ → ℕ → Member
