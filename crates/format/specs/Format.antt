@@ -25,8 +25,8 @@ pub record Format : Type 1 where
   pub header : List ℕ
   pub tree : Tree
   pub slotOf : ℕ → Slot
-  -- what is held of it: a record, from the values of the slots, and the values of a record; and whether a record is outside its
-  -- slots' values or the forms of the record (18)
+  -- what is held of it: a record, from the values of the slots, and the values of a record; and whether a record keeps the forms
+  -- of its values (where it does not, 18)
   pub Held : Type 0
   pub blank : Held
   pub recordOf : (ℕ → List ℕ) → Held
