@@ -1,12 +1,12 @@
 -- The mathematics of the crate's functions, over plain lists and numbers: the answer in each case.
 -- Assumes nothing.
 use Prim.Native.Nat.{ℕ, _+_, _-_, _<_}
-use mathlib.Core.Path.{_≡_, refl}
+use mathlib.Core.Path.{_≡_}
 use mathlib.Core.List.{List}
 use lib.ListN.{length, take, drop}
 use Rattle.pieces.specs.declared.Turn.the-variants.{Message, Done, Past}
 use Rattle.pieces.specs.Pieces.{pieceOf}
-use Rattle.pieces.specs.Turns.{turnOf, behindOf}
+use Rattle.pieces.specs.Turns.{behindOf}
 use Rattle.pieces.proofs.Laws.{stretch-is, turn-message, turn-done, turn-past}
 use Rattle.mt515.specs.Reading.{readOf}
 use Rattle.mt515.specs.declared.Reading.{Reading}

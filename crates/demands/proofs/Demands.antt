@@ -8,7 +8,6 @@ use borrow.Author.Tests.{eq-eqb}
 use Rattle.format.specs.Demands as Every
 use Rattle.format.specs.Writing as Any
 use Rattle.format.proofs.Demands as Proved
-use Rattle.trade.specs.declared.Kind.{Kind}
 use Rattle.values.specs.Mt515.{mt515}
 use Rattle.values.proofs.Laid.{layout}
 use Rattle.mt515.specs.Reading.{told, readOf}

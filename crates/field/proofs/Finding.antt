@@ -3,7 +3,7 @@
 -- Assumes nothing.
 use Prim.Native.Nat.{ℕ, _+_, _-_, _≤_}
 use mathlib.Core.Path.{_≡_, refl, sym, ap, _∙_}
-use mathlib.Core.Bool.{Bool, true, false, cond, true≢false}
+use mathlib.Core.Bool.{true, true≢false}
 use mathlib.Core.List.{List, [], _∷_}
 use native.Mathlib.Omega.{arith}
 use lib.Dec.{leb}
@@ -15,7 +15,6 @@ use Rattle.text.proofs.Laws.{and-left, and-right}
 use Rattle.sheets.specs.Slots.{mustSlots, firstSlots}
 use Rattle.sheets.specs.Sheets.{has}
 use Rattle.sheets.proofs.Musts.{musts}
-use Rattle.search.specs.declared.Span.{Span}
 use Rattle.format.specs.Field as Any
 use Rattle.format.proofs.Field as Proved
 use Rattle.format.proofs.Said.{valued-at}
@@ -24,7 +23,7 @@ use Rattle.table.specs.Tree.{tree, general, pool, details}
 use Rattle.values.specs.Mt515.{mt515}
 use Rattle.values.proofs.Laid.{layout}
 use Rattle.mt515.specs.Reading.{readOf}
-use Rattle.demands.specs.Demands.{saidIn, Lawful}
+use Rattle.demands.specs.Demands.{saidIn}
 use Rattle.demands.proofs.Laws.{laws}
 use Rattle.demands.proofs.Demands.{demands}
 use Rattle.field.specs.Field.{fieldOf, placeOf}

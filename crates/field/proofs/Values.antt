@@ -17,12 +17,12 @@ use Rattle.amount.specs.Amounts.{amountRead, isAmount, whole}
 use Rattle.calendar.specs.Dates.{dateRead, dateFrom, momentRead, momentFrom}
 use Rattle.forms.specs.Forms.{valueNumber, formNumber, unless, isCode, isWord, wordAt}
 use Rattle.forms.specs.Narrative.{isNarrative}
-use Rattle.forms.proofs.Laws.{unless-good}
+use Rattle.forms.proofs.Laws.{unless-good, value-begins}
 use Rattle.table.specs.Table.{slots, slotOf, fixedOf, numberOf}
 use Rattle.sheets.specs.Slots.{fieldSlots, ownSlots, memberSlots, slotsOf}
 use Rattle.sheets.specs.Sheets.{has}
 use Rattle.format.specs.Field.{frontOf}
-use Rattle.format.proofs.Tests.{allBelow, all-at, number-form, number-begins}
+use Rattle.format.proofs.Tests.{allBelow, all-at, number-form}
 use Rattle.format.proofs.Field.{Fields}
 use Rattle.table.specs.Tree.{general, pool, details, tree}
 use Rattle.values.specs.Mt515.{mt515}
@@ -51,7 +51,7 @@ more slot low high h =
 -- what follows the fixed text
 behind-fixed : (slot : ℕ) (v : List ℕ) → 1 ≤ slot → slot < 21 → numberOf slot v ≡ 0 → length (fixedOf slot) < length v
 unfolding numberOf
-behind-fixed slot v low high h = go (drop (length (fixedOf slot)) v) (begins-is (fixedOf slot) v (number-begins (slotOf slot) v h))
+behind-fixed slot v low high h = go (drop (length (fixedOf slot)) v) (begins-is (fixedOf slot) v (value-begins (slotOf slot) v h))
   where
     go : (rest : List ℕ) → v ≡ fixedOf slot ++ rest → length (fixedOf slot) < length v
     go [] e = absurd (more slot low high (rw (e, append-nil (fixedOf slot)) at h))
@@ -60,7 +60,7 @@ behind-fixed slot v low high h = go (drop (length (fixedOf slot)) v) (begins-is 
 behind-told : (v : List ℕ) → numberOf 21 v ≡ 0 → length (fixedOf 21) + 1 < length v
 unfolding bytes numberOf
 behind-told v h =
-    let is = begins-is (fixedOf 21) v (number-begins (slotOf 21) v h) in
+    let is = begins-is (fixedOf 21) v (value-begins (slotOf 21) v h) in
     let l = begins-length (bytes "/TDSV") _ (told-begins (drop (length (fixedOf 21)) v) (rw is at h)) in
     let d = length-drop (length (fixedOf 21)) v in
     omega arith

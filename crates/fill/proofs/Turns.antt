@@ -8,9 +8,10 @@ use mathlib.Core.List.{List, [], _∷_, _++_}
 use native.Mathlib.Omega.{arith}
 use lib.Dec.{leb, ltb, eqb}
 use lib.ListN.{length, drop, getD, length-append}
-use borrow.Author.Tests.{leb-true, eq-eqb, ne-eqb, eqb-true, eqb-false, lt-ltb, le-ltb, ltb-true, ltb-false}
+use borrow.Author.Tests.{leb-true, ne-eqb, lt-ltb, le-ltb, ltb-true, ltb-false}
 use Rattle.text.specs.Bytes.{before}
 use Rattle.text.proofs.Laws.{and-left, and-right}
+use Rattle.text.proofs.Bools.{eqb-turn}
 use Rattle.layout.specs.Rows.{Row, field, opens, closes, many, mark, back, ends, rowOf, textAt, firstRow, rowsOf}
 use Rattle.layout.proofs.Laws.{row-next, row-none, row-at, text-at}
 use Rattle.sheets.specs.Filled.{some}
@@ -21,13 +22,6 @@ use Rattle.fill.proofs.Runs.{Run, over-append, behind-append, length-ru
 use Rattle.fill.proofs.Walks.{any-none}
 
 -- ---- numbers in a list
-
-eqb-turn : (a b : ℕ) → eqb a b ≡ eqb b a
-eqb-turn a b = go (eqb b a) refl
-  where
-    go : (t : Bool) → eqb b a ≡ t → eqb a b ≡ t
-    go true e = eq-eqb a b (sym (eqb-true b a e))
-    go false e = ne-eqb a b (λ h. eqb-false b a e (sym h))
 
 ltb-next : (a b : ℕ) → ltb (suc a) (suc b) ≡ ltb a b
 ltb-next a b = go (ltb a b) refl

@@ -2,7 +2,7 @@
 -- Assumes nothing.
 use Prim.Native.Nat.{ℕ, suc, _≤_}
 use mathlib.Core.Path.{_≡_, refl, sym, ap, _∙_}
-use mathlib.Core.Bool.{Bool, true, false, cond, true≢false}
+use mathlib.Core.Bool.{true, false, true≢false}
 use mathlib.Core.List.{List, [], _∷_, _++_}
 use native.Mathlib.Omega.{arith}
 use lib.Dec.{eqb}
@@ -13,26 +13,24 @@ use Rattle.text.proofs.Laws.{and-left}
 use Rattle.lines.specs.Verdicts.{then, pass, refused}
 use Rattle.lines.specs.Lines.{linesOf, linesPass}
 use Rattle.lines.specs.declared.Verdict.{Verdict}
-use Rattle.lines.proofs.Laws.{then-zero, Closed}
-use Rattle.lines.proofs.Joins.{Whole, whole-lines}
+use Rattle.lines.proofs.Laws.{then-zero}
+use Rattle.lines.proofs.Joins.{whole-lines}
 use Rattle.blocks.specs.Blocks.{nest, nestPass}
 use Rattle.layout.specs.Rows.{Row}
 use Rattle.layout.specs.Layout.{Run, refusedAt, taken, withTaken, Taken, marked, behind, stepOf, runOf, layoutOf}
 use Rattle.layout.specs.declared.Place.{Place}
 use Rattle.layout.specs.declared.Step.{Step}
-use Rattle.sheets.specs.Sheets.{Entry, linesIn, takenIn, has, Sheet}
-use Rattle.sheets.specs.Slots.{slotsOf}
+use Rattle.sheets.specs.Sheets.{Entry, linesIn, takenIn, Sheet}
 use Rattle.sheets.specs.Trees.{tableOf}
 use Rattle.text.proofs.Bools.{of-both}
 use Rattle.sheets.proofs.Accepts.{reads}
 use Rattle.sheets.proofs.Cuts.{cuts}
 use Rattle.walk.specs.Walk.{valuesPass, bodyPass, takenIn as takenOf}
-use Rattle.reader.specs.Header.{headPass, headValue}
+use Rattle.reader.specs.Header.{headPass}
 use Rattle.reader.specs.Take.{passOf}
-use Rattle.format.specs.Format.{Format, everySlot}
-use Rattle.format.specs.Reading.{Read, reading, bodyOf, valueOn, rulesOf, verdictOf, readOf}
+use Rattle.format.specs.Format.{Format}
+use Rattle.format.specs.Reading.{reading, bodyOf, valueOn, rulesOf, verdictOf, readOf}
 use Rattle.format.specs.Lawful.{Valued, saidIn, Lawful}
-use Rattle.format.specs.Writing.{headLine}
 use Rattle.format.proofs.Tests.{every, foreign}
 use Rattle.format.proofs.Laws.{strangers, Layout, Laws}
 use Rattle.format.proofs.Heads.{Heads, heads-from, heads-fit}

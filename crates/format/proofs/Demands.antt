@@ -8,19 +8,16 @@ use mathlib.Core.Logic.{_⊎_, inl, inr, ⊎-elim}
 use native.Mathlib.Omega.{arith}
 use lib.Dec.{eqb, ltb}
 use lib.ListN.{length, drop}
-use borrow.Author.Tests.{eqb-true, eqb-false, eq-eqb, le-ltb}
+use borrow.Author.Tests.{eqb-true, eq-eqb, le-ltb}
 use Rattle.text.specs.Copy.{over}
 use Rattle.lines.specs.Verdicts.{refused, pass, then, when}
-use Rattle.lines.specs.declared.Verdict.{Verdict}
-use Rattle.pieces.specs.Pieces.{pieces, together}
 use Rattle.pieces.proofs.Pieces.{Message, Messages, message-joined, no-beginning, pieces-of, same-batch}
-use Rattle.text.proofs.Bools.{of-both}
 use Rattle.format.specs.Format.{Format}
 use Rattle.format.specs.Reading.{Read, reading, verdictOf, readOf}
 use Rattle.format.specs.Lawful.{saidIn, Lawful}
 use Rattle.format.specs.Writing.{linesFor, messageOf, judgeOf, writeNumber, writeLength, writtenOver, writable}
 use Rattle.format.specs.Plain.{plainOf}
-use Rattle.format.specs.Demands.{Accepted, heldIn, accepts, AllWritable, written, Demands}
+use Rattle.format.specs.Demands.{Accepted, heldIn, accepts, AllWritable, Demands}
 use Rattle.format.proofs.Laws.{Layout, Laws}
 use Rattle.format.proofs.Accepting.{body-taken, record-said, accepted-line, accepted-lawful, lawful-accepted}
 use Rattle.format.proofs.Round.{judge-good, whole, written-read}

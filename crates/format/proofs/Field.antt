@@ -1,7 +1,7 @@
 -- What a stretch and a field are to each other, to the message and to its record, of any message type: the value is the end of its
 -- line, and the line is the one that the message's sheet has for the slot.
 -- Assumes nothing.
-use Prim.Native.Nat.{ℕ, suc, _+_, _≤_, _<_}
+use Prim.Native.Nat.{ℕ, suc, _<_}
 use mathlib.Core.Path.{_≡_, refl, sym, ap, subst, _∙_}
 use mathlib.Core.Bool.{Bool, true, false, _&&_, cond, true≢false}
 use mathlib.Core.List.{List, [], _∷_}
@@ -13,7 +13,6 @@ use lib.Seq.{drop-nil, drop-drop}
 use borrow.Author.Tests.{ne-eqb, eqb-true}
 use Rattle.text.specs.Classes.{isBetween}
 use Rattle.text.proofs.Laws.{and-left}
-use Rattle.layout.specs.Rows.{Row}
 use Rattle.layout.specs.Layout.{Taken, taken}
 use Rattle.forms.specs.Forms.{valueNumber}
 use Rattle.sheets.specs.Trees.{tableOf}
@@ -31,7 +30,6 @@ use Rattle.walk.specs.Walk.{takenIn}
 use Rattle.format.specs.Format.{Format}
 use Rattle.format.specs.Reading.{bodyOf, readOf}
 use Rattle.format.specs.Lawful.{saidIn, Lawful}
-use Rattle.format.specs.Demands.{Accepted}
 use Rattle.format.specs.Field.{nowhere, asked, lineFor, frontOf, fieldOf, spanIn, Finding}
 use Rattle.format.proofs.Laws.{Layout, Laws}
 use Rattle.format.proofs.Said.{valued-at}

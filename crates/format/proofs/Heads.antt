@@ -2,29 +2,29 @@
 -- Assumes nothing.
 use Prim.Native.Nat.{ℕ, suc, _≤_}
 use mathlib.Core.Path.{_≡_, refl, sym, ap, _∙_}
-use mathlib.Core.Bool.{Bool, true, false, _&&_, _||_, not, cond, true≢false}
+use mathlib.Core.Bool.{Bool, true, false, not, cond, true≢false}
 use mathlib.Core.List.{List, [], _∷_, _++_, map, append-nil}
 use native.Mathlib.Omega.{arith}
 use lib.Dec.{eqb}
 use lib.ListN.{length, drop, getD}
 use lib.Seq.{drop-append-seam}
 use borrow.Author.Tests.{eqb-true, eq-eqb, not-true}
-use Rattle.text.specs.Bytes.{bytes, begins, same}
+use Rattle.text.specs.Bytes.{begins, same}
 use Rattle.text.proofs.Laws.{and-left, and-right, and-both, begins-is, begins-append}
 use Rattle.text.proofs.Printed.{printed}
 use Rattle.lines.specs.Verdicts.{refused, pass}
-use Rattle.lines.specs.declared.Verdict.{Verdict}
 use Rattle.lines.proofs.Joins.{allPrintable}
 use Rattle.forms.specs.Forms.{Slot, valueNumber}
+use Rattle.forms.proofs.Laws.{value-begins}
 use Rattle.sheets.specs.Sheets.{has}
 use Rattle.sheets.specs.Plain.{Group, anyLine}
-use Rattle.text.proofs.Bools.{is-false, or-case, or-one, or-two, or-none, or-left, or-right}
+use Rattle.text.proofs.Bools.{is-false, or-two, or-none, or-left, or-right}
 use Rattle.sheets.proofs.Checks.{distinct}
 use Rattle.sheets.proofs.Emits.{has-front}
 use Rattle.sheets.proofs.Order.{Missing}
 use Rattle.reader.specs.Header.{headVerdict, headValue}
 use Rattle.format.specs.Plain.{tidyLine}
-use Rattle.format.proofs.Tests.{every, every-at, number-begins, foreign, never-begins, same-begins, untouched, untouched-line}
+use Rattle.format.proofs.Tests.{every, every-at, foreign, never-begins, same-begins, untouched, untouched-line}
 use Rattle.format.proofs.Laws.{edges}
 
 begins-self : (z : List ℕ) → begins z z ≡ true
@@ -87,7 +87,7 @@ module _ (slotOf : ℕ → Slot) where
       own : x ≡ s → valueNumber (slotOf s) (slotOf s .fixed ++ headValue slotOf (drop (length (slotOf x .fixed)) l) hs (drop 1 ls) s) ≡ 0
       own q =
           let k : has hs s ≡ false = rw q at (not-true (has hs x) (and-left (not (has hs x)) (distinct hs) d)) in
-          rw (head-none (drop (length (slotOf x .fixed)) l) hs (drop 1 ls) s k, ← q, ← (begins-is (slotOf x .fixed) l (number-begins (slotOf x) l (h .0)))) (h .0)
+          rw (head-none (drop (length (slotOf x .fixed)) l) hs (drop 1 ls) s k, ← q, ← (begins-is (slotOf x .fixed) l (value-begins (slotOf x) l (h .0)))) (h .0)
 
       on : (has hs s ≡ true → valueNumber (slotOf s) (slotOf s .fixed ++ headValue slotOf v hs (drop 1 ls) s) ≡ 0) → (b : Bool) → eqb x s ≡ b
           → valueNumber (slotOf s) (slotOf s .fixed ++ headValue slotOf (cond b (drop (length (slotOf x .fixed)) l) v) hs (drop 1 ls) s) ≡ 0
@@ -106,7 +106,7 @@ module _ (slotOf : ℕ → Slot) where
     heads-are (s ∷ hs) (l ∷ ls) n d h v =
         let k = not-true (has hs s) (and-left (not (has hs s)) (distinct hs) d) in
         let own : value s ≡ drop (length (slotOf s .fixed)) l = v s (has-front s hs) ∙ rw (eq-eqb s s refl) (head-none (drop (length (slotOf s .fixed)) l) hs ls s k) in
-        let first : l ≡ line s = begins-is (slotOf s .fixed) l (number-begins (slotOf s) l (h .0)) ∙ ap (λ (x : List ℕ). slotOf s .fixed ++ x) (sym own) in
+        let first : l ≡ line s = begins-is (slotOf s .fixed) l (value-begins (slotOf s) l (h .0)) ∙ ap (λ (x : List ℕ). slotOf s .fixed ++ x) (sym own) in
         let rest = heads-are hs ls (omega arith) (and-right (not (has hs s)) _ d) (h .1) (λ x e. v x (or-two (eqb s x) _ e) ∙ rw (others s hs x k e)) in
         ap (λ (x : List ℕ). x ∷ ls) first ∙ ap (λ (x : List (List ℕ)). line s ∷ x) rest
 

@@ -9,24 +9,23 @@ use lib.Dec.{eqb}
 use lib.ListN.{length, drop}
 use lib.Seq.{drop-nil}
 use borrow.Author.Tests.{eqb-false, not-true}
-use Rattle.text.specs.Bytes.{begins}
 use Rattle.text.proofs.Laws.{and-left, and-right, and-both, begins-is}
 use Rattle.lines.specs.Lines.{linesOf}
 use Rattle.forms.specs.Forms.{valueNumber}
+use Rattle.forms.proofs.Laws.{value-begins}
 use Rattle.sheets.specs.Slots.{slotsOf, mustSlots}
 use Rattle.sheets.specs.Sheets.{Entry, has, Sheet}
 use Rattle.sheets.specs.Filled.{some, valueIn}
-use Rattle.text.proofs.Bools.{is-false, of-both, or-case, or-one, or-two}
-use Rattle.sheets.proofs.Checks.{distinct, complete, solid}
-use Rattle.sheets.proofs.Once.{has-append, apart-lists, slotsHeld, inside, outside}
+use Rattle.text.proofs.Bools.{is-false, or-case}
+use Rattle.sheets.proofs.Once.{has-append, apart-lists, slotsHeld, inside}
 use Rattle.sheets.proofs.Order.{value-absent}
 use Rattle.sheets.proofs.Musts.{musts}
 use Rattle.sheets.proofs.Settled.{sheet-settles}
 use Rattle.reader.specs.Header.{headPass, headValue}
 use Rattle.format.specs.Format.{Format, everySlot, optional}
-use Rattle.format.specs.Lawful.{Valued, saidIn, Lawful}
+use Rattle.format.specs.Lawful.{Valued, saidIn}
 use Rattle.format.specs.Writing.{behindIn}
-use Rattle.format.proofs.Tests.{every, every-at, number-begins, no-length}
+use Rattle.format.proofs.Tests.{every-at, no-length}
 use Rattle.format.proofs.Laws.{Layout, Filled, Held}
 use Rattle.format.proofs.Heads.{Heads, heads-from, head-good}
 use Rattle.format.proofs.Said.{valued-at}
@@ -89,7 +88,7 @@ module _ (F : Format) (L : Layout F) where
     -- it stands, with its fixed text; or it does not, and is optional
     pub stands : (s : ℕ) → has (slotsHeld es) s ≡ true → valueIn es s ≡ F .slotOf s .fixed ++ saidIn F m es s
     stands s e =
-        rw (said-slot s (inside s l e)) (begins-is (F .slotOf s .fixed) (valueIn es s) (number-begins (F .slotOf s) (valueIn es s) (valued-at F es s h e)))
+        rw (said-slot s (inside s l e)) (begins-is (F .slotOf s .fixed) (valueIn es s) (value-begins (F .slotOf s) (valueIn es s) (valued-at F es s h e)))
 
     pub lacks : (s : ℕ) → has (slotsOf (F .tree)) s ≡ true → has (slotsHeld es) s ≡ false → (saidIn F m es s ≡ []) × (optional F s ≡ true)
     unfolding optional

@@ -3,14 +3,13 @@
 -- Assumes nothing.
 use Prim.Native.Nat.{ℕ, _≤_}
 use mathlib.Core.Path.{_≡_}
-use mathlib.Core.Bool.{Bool, true, _&&_, _||_, not}
+use mathlib.Core.Bool.{true, _||_, not}
 use mathlib.Core.List.{List, [], _∷_, _++_}
 use mathlib.Core.Logic.{_⊎_}
 use lib.Dec.{eqb}
 use lib.ListN.{length}
 use Rattle.text.specs.Bytes.{bytes}
-use Rattle.lines.specs.declared.Verdict.{Verdict}
-use Rattle.forms.specs.Forms.{Slot, valueNumber}
+use Rattle.forms.specs.Forms.{valueNumber}
 use Rattle.sheets.specs.Sheets.{has}
 use Rattle.sheets.specs.Slots.{slotsOf}
 use Rattle.sheets.specs.Plain.{Group, groupsOf}

@@ -11,7 +11,6 @@ use lib.Dec.{eqb}
 use lib.ListN.{length, replicate, length-append, length-replicate}
 use borrow.Author.Tests.{eqb-true, eqb-false}
 use Rattle.lines.specs.Lines.{joined}
-use Rattle.forms.specs.Forms.{Slot, formNumber}
 use Rattle.forms.proofs.Widths.{formWidth, bounded, form-width}
 use Rattle.sheets.specs.Sheets.{linesIn, has}
 use Rattle.sheets.specs.Filled.{filled}
@@ -19,7 +18,7 @@ use Rattle.format.specs.Format.{Format, everySlot, optional}
 use Rattle.format.specs.Writing.{behindIn, headLine, linesFor, messageOf}
 use Rattle.format.proofs.Tests.{every, every-at, number-form}
 use Rattle.format.proofs.Laws.{Filled, Held}
-use Rattle.format.proofs.Grows.{size, joined-next, grows}
+use Rattle.format.proofs.Grows.{joined-next, grows}
 
 module _ (F : Format) where
   -- ---- a value of a message is no wider than its form

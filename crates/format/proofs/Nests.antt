@@ -10,13 +10,13 @@ use lib.Dec.{leb, ltb, eqb}
 use lib.ListN.{length, drop, length-append}
 use borrow.Author.Tests.{leb-true, le-leb, not-true}
 use Rattle.text.specs.Bytes.{bytes, begins, same}
-use Rattle.text.specs.Classes.{allIn, inClass, isBetween, isC, isDigit, isUpper}
+use Rattle.text.specs.Classes.{isBetween, isDigit, isUpper}
 use Rattle.text.proofs.Laws.{and-left, and-right, and-both, same-refl, same-eq, begins-is}
 use Rattle.lines.specs.Verdicts.{pass}
 use Rattle.lines.specs.declared.Verdict.{Verdict}
 use Rattle.blocks.specs.Blocks.{isTagged, nameOf, isName, named, roleOf, goes, ending, opening, closing, turn, follow, nest}
 use Rattle.sheets.specs.Trees.{Field, Member, Tree, last, line, block, group, chain}
-use Rattle.sheets.specs.Sheets.{Entry, edge, held, lineOf, linesIn, Among, front, later, Laid, shut, given, absent, opened, passed, member, done, Sheet}
+use Rattle.sheets.specs.Sheets.{Entry, edge, held, lineOf, linesIn, Among, front, later, Laid, shut, given, absent, opened, passed, member, done}
 use Rattle.sheets.specs.Filled.{some}
 use Rattle.sheets.proofs.Checks.{full}
 use Rattle.sheets.proofs.Accepts.{lines-append}

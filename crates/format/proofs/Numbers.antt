@@ -21,7 +21,7 @@ use Rattle.calendar.specs.declared.MomentRead.{MomentRead}
 use Rattle.forms.specs.Forms.{Form, nothing, codes, words, amount, date, moment, narrative, other, Slot, isCode, isWord, unless, formNumber, valueNumber}
 use Rattle.forms.specs.Narrative.{isNarrative}
 use Rattle.layout.specs.Rows.{Row, field, opens, closes, many, mark, back, ends}
-use Rattle.layout.specs.Layout.{Taken, Run, refusedAt, taken, wrong, moves, enters, takes, fits, isSeen, lacks, beneath, against, look, onward, scan, stepOf, withTaken, marked, behind, runOf, layoutOf}
+use Rattle.layout.specs.Layout.{Taken, Run, refusedAt, taken, fits, isSeen, lacks, beneath, against, look, onward, scan, stepOf, withTaken, marked, behind, runOf, layoutOf}
 use Rattle.layout.specs.declared.Place.{Place}
 use Rattle.layout.specs.declared.Step.{Step}
 use Rattle.layout.specs.declared.Look.{Look}

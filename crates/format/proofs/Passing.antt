@@ -1,27 +1,26 @@
 -- What the layout takes to its end has nothing wrong in 1, 2 and 3 nor in 5, 6 and 7.
 -- Assumes nothing.
 use Prim.Native.Nat.{ℕ, suc, _≤_}
-use mathlib.Core.Path.{_≡_, refl, sym, ap, _∙_}
-use mathlib.Core.Bool.{true, cond}
+use mathlib.Core.Path.{_≡_, refl, ap, _∙_}
+use mathlib.Core.Bool.{true}
 use mathlib.Core.List.{List, [], _∷_, _++_, map}
 use native.Mathlib.Omega.{arith}
 use lib.ListN.{length, drop, length-append, length-drop}
 use borrow.Author.Tests.{le-leb}
 use Rattle.text.specs.Bytes.{bytes}
 use Rattle.lines.specs.Verdicts.{pass, refused, then}
-use Rattle.lines.specs.Lines.{linesOf, ended, sizePass, bytePass, endPass, linesPass}
+use Rattle.lines.specs.Lines.{linesOf, ended, sizePass, endPass, linesPass}
 use Rattle.lines.specs.declared.Verdict.{Verdict}
-use Rattle.lines.proofs.Laws.{Closed}
 use Rattle.lines.proofs.Joins.{Whole, end-closed, some-bytes}
 use Rattle.lines.proofs.Standing.{bytes-stand}
-use Rattle.sheets.specs.Sheets.{Entry, linesIn, has}
+use Rattle.sheets.specs.Sheets.{linesIn}
 use Rattle.reader.specs.Header.{headPass, headValue}
 use Rattle.format.specs.Format.{Format}
 use Rattle.format.specs.Passing.{TakenPasses}
 use Rattle.format.specs.Writing.{headLine}
 use Rattle.format.proofs.Laws.{Layout}
 use Rattle.format.proofs.Heads.{Heads, heads-from, heads-are, head-good}
-use Rattle.format.proofs.Accepting.{Cut, Told, told, sheet-nests}
+use Rattle.format.proofs.Accepting.{Told, told, sheet-nests}
 use Rattle.format.proofs.Round.{whole-lines}
 
 -- a message of whole lines that has its last ending passes 1, 2 and 3

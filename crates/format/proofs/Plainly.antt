@@ -1,13 +1,12 @@
 -- Demand 2, the plain form: writing the record of an accepted message gives the message's plain form.
 -- Assumes nothing.
-use Prim.Native.Nat.{ℕ, suc, _≤_}
+use Prim.Native.Nat.{ℕ, suc}
 use mathlib.Core.Path.{_≡_, refl, sym, ap, _∙_}
-use mathlib.Core.Bool.{Bool, true, false, _&&_, _||_, not, cond, true≢false}
+use mathlib.Core.Bool.{Bool, true, false, _&&_, not, cond, true≢false}
 use mathlib.Core.List.{List, [], _∷_, _++_, map}
 use mathlib.Core.Logic.{_⊎_, inl, inr}
-use native.Mathlib.Omega.{arith}
 use lib.Dec.{eqb}
-use lib.ListN.{length, drop}
+use lib.ListN.{length}
 use borrow.Author.Tests.{not-true}
 use Rattle.text.specs.Bytes.{bytes}
 use Rattle.text.proofs.Laws.{and-left, and-right}
@@ -17,23 +16,22 @@ use Rattle.sheets.specs.Trees.{Field, Member, Tree, last, line, block, group}
 use Rattle.sheets.specs.Slots.{fieldSlots, ownSlots, memberSlots, slotsOf}
 use Rattle.sheets.specs.Sheets.{Entry, has, linesIn, Sheet}
 use Rattle.sheets.specs.Filled.{some, valueIn, filled}
-use Rattle.sheets.specs.Plain.{Group, inOrder, groupsOf}
+use Rattle.sheets.specs.Plain.{inOrder}
 use Rattle.text.proofs.Bools.{or-one, or-two}
 use Rattle.sheets.proofs.Emits.{has-front}
 use Rattle.sheets.proofs.Once.{has-append}
-use Rattle.sheets.proofs.Order.{Missing, plain-behind}
+use Rattle.sheets.proofs.Order.{plain-behind}
 use Rattle.sheets.proofs.Musts.{Turned, TurnedFields, TurnedMembers, TurnedTree, turned}
-use Rattle.reader.specs.Header.{headPass, headValue}
+use Rattle.reader.specs.Header.{headPass}
 use Rattle.format.specs.Format.{Format, everySlot, optional}
-use Rattle.format.specs.Reading.{rulesOf}
 use Rattle.format.specs.Lawful.{Valued, saidIn, Lawful}
 use Rattle.format.specs.Writing.{behindIn, headLine, linesFor, messageOf}
 use Rattle.format.specs.Plain.{tidyLine, plainLines, plainOf}
 use Rattle.format.proofs.Tests.{every, every-at, foreign, no-length, isAmountForm, tidied, tidied-same, tidied-some, tidied-none, untouched, untouched-line, tidyRow, tidyFields, tidyMembers, tidyTree, row-tidied, row-bare}
-use Rattle.format.proofs.Laws.{edges, strangers, Layout, Filled, Held, Laws}
-use Rattle.format.proofs.Heads.{Heads, heads-from, heads-are, head-good, heads-missing, heads-tidy}
+use Rattle.format.proofs.Laws.{edges, strangers, Layout, Held, Laws}
+use Rattle.format.proofs.Heads.{heads-from, heads-are, heads-missing, heads-tidy}
 use Rattle.format.proofs.Said.{sheet-full}
-use Rattle.format.proofs.Accepting.{Cut, cut}
+use Rattle.format.proofs.Accepting.{cut}
 use Rattle.format.proofs.Holds.{optional-some, behind-filled, said-head, said-behind, holds}
 use Rattle.format.proofs.Round.{in-tree, in-header, head-lines}
 

@@ -1,21 +1,17 @@
 -- The lines of a sheet whose values get 0 are of 20 to 7E hex, where the texts of its table are; and its last line is its only `-`.
 -- Assumes nothing.
 use Prim.Native.Nat.{ℕ}
-use mathlib.Core.Path.{_≡_, refl, sym, ap, _∙_}
-use mathlib.Core.Bool.{Bool, true, false, _&&_, _||_, not, true≢false}
+use mathlib.Core.Path.{_≡_, refl}
+use mathlib.Core.Bool.{Bool, true, _&&_}
 use mathlib.Core.List.{List, [], _∷_, _++_}
-use lib.Dec.{eqb}
-use borrow.Author.Tests.{eq-eqb}
 use Rattle.text.proofs.Laws.{and-left, and-right, and-both}
 use Rattle.text.proofs.Printed.{printed, printed-append}
 use Rattle.lines.proofs.Joins.{allPrintable, printable-append}
 use Rattle.forms.specs.Forms.{Slot, valueNumber}
 use Rattle.forms.proofs.Printing.{printedForm, value-printed}
 use Rattle.sheets.specs.Trees.{Field, Member, Tree, last, line, block, group, chain}
-use Rattle.sheets.specs.Sheets.{Entry, edge, held, lineOf, linesIn, has, Among, front, later, Laid, shut, given, absent, opened, passed, member, done}
-use Rattle.text.proofs.Bools.{or-one, or-two}
+use Rattle.sheets.specs.Sheets.{Entry, edge, held, lineOf, linesIn, Among, front, later, Laid, shut, given, absent, opened, passed, member, done}
 use Rattle.sheets.proofs.Order.{lines-both}
-use Rattle.sheets.proofs.Once.{slotsHeld, has-held}
 
 -- ---- the texts of a table
 

@@ -1,45 +1,46 @@
 -- Demand 2, the round: the message of a record that may be written is a whole message, and reading it gives that record.
 -- Assumes nothing.
-use Prim.Native.Nat.{ℕ, _≤_}
+use Prim.Native.Nat.{ℕ}
 use mathlib.Core.Path.{_≡_, refl, sym, ap, _∙_}
-use mathlib.Core.Bool.{Bool, true, false, _&&_, _||_, not, cond, true≢false}
+use mathlib.Core.Bool.{Bool, true, false, _||_, not, cond, true≢false}
 use mathlib.Core.List.{List, [], _∷_, _++_, map, append-assoc}
 use mathlib.Core.Logic.{_⊎_, inl, inr}
 use native.Mathlib.Omega.{arith}
 use lib.Dec.{eqb}
 use lib.ListN.{length, drop, length-map}
 use lib.Seq.{drop-append-seam, drop-at, drop-nil}
-use borrow.Author.Tests.{eqb-true, eqb-false, eq-eqb}
+use borrow.Author.Tests.{eq-eqb}
 use Rattle.text.specs.Bytes.{bytes, same}
-use Rattle.text.proofs.Laws.{and-left, and-right, and-both}
+use Rattle.text.proofs.Laws.{and-left, and-right}
 use Rattle.text.proofs.Printed.{printed}
 use Rattle.lines.specs.Verdicts.{pass, refused, then, when}
-use Rattle.lines.specs.Lines.{linesOf, linesPass, joined}
+use Rattle.lines.specs.Lines.{linesOf, linesPass}
 use Rattle.lines.specs.declared.Verdict.{Verdict}
-use Rattle.lines.proofs.Laws.{then-zero, plain, Closed}
-use Rattle.lines.proofs.Joins.{allPrintable, printable-append, Whole, lines-joined, passes-joined}
+use Rattle.lines.proofs.Laws.{then-zero, plain}
+use Rattle.lines.proofs.Joins.{printable-append, Whole, lines-joined, passes-joined}
 use Rattle.forms.specs.Forms.{valueNumber}
 use Rattle.sheets.specs.Sheets.{Entry, edge, held, linesIn, has, Sheet}
 use Rattle.sheets.specs.Slots.{slotsOf}
 use Rattle.sheets.specs.Filled.{some, valueIn, filled}
 use Rattle.sheets.specs.Plain.{anyLine}
-use Rattle.text.proofs.Bools.{or-case, or-one, or-two, or-none, or-left, or-right, of-both}
+use Rattle.text.proofs.Bools.{or-one, or-two, or-left, or-right}
 use Rattle.sheets.proofs.Checks.{withTree, full}
 use Rattle.sheets.proofs.Emits.{emits, values, Fits, fits-filled}
 use Rattle.sheets.proofs.Once.{has-append, slotsHeld, inside}
 use Rattle.sheets.proofs.Solid.{full-filled}
 use Rattle.sheets.proofs.Ends.{laid-ends}
+use Rattle.sheets.proofs.Order.{none-both}
 use Rattle.reader.specs.Header.{headPass, headValue}
 use Rattle.format.specs.Format.{Format, everySlot, optional}
-use Rattle.format.specs.Reading.{Read, rulesOf, verdictOf, readOf}
+use Rattle.format.specs.Reading.{rulesOf, readOf}
 use Rattle.format.specs.Lawful.{Valued, saidIn, Lawful}
 use Rattle.format.specs.Writing.{behindIn, headLine, linesFor, messageOf, judgeOf}
-use Rattle.format.proofs.Tests.{every, every-at, number-form}
+use Rattle.format.proofs.Tests.{every-at}
 use Rattle.format.proofs.Prints.{Printed, laid-printed, printable, good-printed}
 use Rattle.format.proofs.Laws.{Layout, Filled, Held, Laws}
 use Rattle.format.proofs.Heads.{heads-written, value-written, heads-pass, heads-miss, heads-printed}
 use Rattle.format.proofs.Accepting.{no-dash, accepted-line, lawful-accepted, body-taken, record-said}
-use Rattle.format.proofs.Holds.{every-slot, not-header, optional-some, behind-filled, behind-some}
+use Rattle.format.proofs.Holds.{every-slot, not-header, behind-filled}
 
 -- ---- what a judge of 0 says
 
@@ -60,11 +61,6 @@ plain-none : (ls : List (List ℕ)) → anyLine (bytes "-") ls ≡ false → pla
 unfolding anyLine plain
 plain-none [] h = refl
 plain-none (l ∷ ls) h = rw (or-left (same (bytes "-") l) _ h) (plain-none ls (or-right (same (bytes "-") l) _ h))
-
-any-both : (z : List ℕ) (ls ks : List (List ℕ)) → anyLine z ls ≡ false → anyLine z ks ≡ false → anyLine z (ls ++ ks) ≡ false
-unfolding anyLine
-any-both z [] ks h k = k
-any-both z (l ∷ ls) ks h k = or-none (same z l) _ (or-left (same z l) _ h) (any-both z ls ks (or-right (same z l) _ h) k)
 
 module _ (F : Format) (L : Layout F) where
   -- ---- a header and a sheet whose values get 0 are the lines of a whole message
@@ -103,7 +99,7 @@ module _ (F : Format) (L : Layout F) where
             record {
               body = head ++ ls;
               split = ap (λ (y : List (List ℕ)). head ++ y) e ∙ sym (append-assoc head ls (bytes "-" ∷ []));
-              early = plain-none (head ++ ls) (any-both (bytes "-") head ls (heads-miss (F .slotOf) value (bytes "-") (F .header) (no-dash F L) g) k);
+              early = plain-none (head ++ ls) (none-both (bytes "-") head ls (heads-miss (F .slotOf) value (bytes "-") (F .header) (no-dash F L) g) k);
             };
         printing =
             printable-append head (linesIn es)

@@ -2,8 +2,8 @@
 -- Assumes nothing.
 use Prim.Native.Nat.{ℕ, suc}
 use mathlib.Core.Path.{_≡_, refl, sym, ap, _∙_}
-use mathlib.Core.Bool.{Bool, true, false, _&&_, _||_, not, cond, true≢false}
-use mathlib.Core.List.{List, [], _∷_, _++_}
+use mathlib.Core.Bool.{Bool, true, false, _||_, not, cond, true≢false}
+use mathlib.Core.List.{List, [], _∷_}
 use lib.Dec.{eqb}
 use lib.ListN.{length, drop}
 use lib.Seq.{drop-nil}
@@ -11,7 +11,7 @@ use borrow.Author.Tests.{eqb-true, eqb-false, eq-eqb, not-true}
 use Rattle.lines.specs.Verdicts.{refused, pass, then}
 use Rattle.lines.specs.Lines.{linesOf}
 use Rattle.lines.proofs.Laws.{then-zero}
-use Rattle.forms.specs.Forms.{Slot, valueNumber}
+use Rattle.forms.specs.Forms.{valueNumber}
 use Rattle.sheets.specs.Slots.{slotsOf}
 use Rattle.sheets.specs.Sheets.{Entry, edge, held, takenIn, has, Sheet}
 use Rattle.sheets.specs.Filled.{some, valueIn}
@@ -24,7 +24,7 @@ use Rattle.reader.specs.Header.{headValue}
 use Rattle.format.specs.Format.{Format}
 use Rattle.format.specs.Reading.{valueOn}
 use Rattle.format.specs.Lawful.{Valued, saidIn}
-use Rattle.format.proofs.Tests.{every, every-at}
+use Rattle.format.proofs.Tests.{every-at}
 use Rattle.format.proofs.Laws.{Layout}
 use Rattle.format.proofs.Heads.{head-none}
 

@@ -7,7 +7,7 @@ use mathlib.Core.List.{List, [], _∷_, _++_, append-assoc, append-nil}
 use native.Mathlib.Nat.{not-suc-le-zero}
 use native.Mathlib.Omega.{arith}
 use lib.Dec.{eqb, leb}
-use lib.ListN.{length, drop}
+use lib.ListN.{length}
 use lib.Seq.{drop-append-seam}
 use borrow.Author.Tests.{eqb-true, eqb-false, not-true}
 use Rattle.text.specs.Bytes.{begins, same, before}
@@ -16,12 +16,12 @@ use Rattle.text.specs.declared.Class.the-variants.{C}
 use Rattle.text.proofs.Laws.{and-left, and-right, and-both, same-eq, begins-append}
 use Rattle.amount.specs.Amounts.{whole, decimals, trimmed, shortened, tidy, isAmount, amountRead, amountNumber}
 use Rattle.forms.specs.Forms.{Form, nothing, codes, words, amount, date, moment, narrative, other, Slot, isCode, unless, formNumber, valueNumber}
+use Rattle.forms.proofs.Laws.{value-begins}
 use Rattle.sheets.specs.Trees.{Field, Member, Tree, last, line, block, group}
 use Rattle.sheets.specs.Sheets.{has}
 use Rattle.sheets.specs.Filled.{some}
-use Rattle.sheets.specs.Plain.{Group}
 use Rattle.text.proofs.Bools.{is-false, of-both, or-case, or-two}
-use Rattle.sheets.proofs.Checks.{Fit, starts, fitsLine, clash}
+use Rattle.sheets.proofs.Checks.{starts, fitsLine, clash}
 use Rattle.sheets.proofs.Accepts.{clash-apart}
 use Rattle.sheets.proofs.Emits.{has-front}
 use Rattle.format.specs.Plain.{tidyBehind, tidyLine}
@@ -58,15 +58,6 @@ all-at (suc n) p h i l =
 pub number-form : (slot : Slot) (v : List ℕ) → valueNumber slot (slot .fixed ++ v) ≡ formNumber (slot .form) v
 unfolding valueNumber
 number-form slot v = rw (begins-append (slot .fixed) v, drop-append-seam (slot .fixed) v)
-
--- a value that gets 0 begins with the fixed text
-pub number-begins : (slot : Slot) (v : List ℕ) → valueNumber slot v ≡ 0 → begins (slot .fixed) v ≡ true
-unfolding valueNumber
-number-begins slot v h = on (begins (slot .fixed) v) h
-  where
-    on : (b : Bool) → cond b (formNumber (slot .form) (drop (length (slot .fixed)) v)) 10 ≡ 0 → b ≡ true
-    on true e = refl
-    on false e = let z : ⊥ = omega arith in absurd z
 
 -- ---- a text that no value of a slot begins with, whatever it is
 
@@ -124,7 +115,7 @@ pub never-begins : (slot : Slot) (z l : List ℕ) → foreign slot z ≡ true �
 unfolding foreign fitsLine
 never-begins slot z l h e =
     or-case (not (clash (starts z) (starts (slot .fixed)))) _ h
-    (λ c. clash-apart (starts z) (starts (slot .fixed)) l (not-true _ c) (number-begins slot l e))
+    (λ c. clash-apart (starts z) (starts (slot .fixed)) l (not-true _ c) (value-begins slot l e))
     (λ c. let f : slot .fixed ≡ [] = no-length (slot .fixed) (and-left _ _ c) in
     let k = and-right (eqb (length (slot .fixed)) 0) _ c in
     codes-begin (slot .form) z l (and-left _ _ k) (and-right (isCodes (slot .form)) _ k) (bare-number slot l f e))

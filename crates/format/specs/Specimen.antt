@@ -3,7 +3,6 @@
 --   an optional amount has no value where it is absent, and `0,` where it is zero (SETT)
 --   a block that need not stand does where one of its slots has a value, and then all that is mandatory in it has one
 use Prim.Native.Nat.{ℕ}
-use Prim.Native.String.{String}
 use mathlib.Core.Bool.{Bool, true, false, _&&_, _||_, not, cond}
 use mathlib.Core.List.{List, [], _∷_, _++_, map}
 use lib.Dec.{eqb}

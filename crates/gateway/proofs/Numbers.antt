@@ -3,12 +3,12 @@
 use Prim.Native.Nat.{ℕ, _≤_}
 use native.Mathlib.Omega.{arith}
 use mathlib.Core.Path.{refl}
-use mathlib.Core.Bool.{Bool, not}
+use mathlib.Core.Bool.{not}
 use mathlib.Core.List.{List}
 use lib.Dec.{eqb}
 use lib.ListN.{drop}
 use Rattle.text.specs.Bytes.{same}
-use Rattle.lines.specs.Verdicts.{then, when}
+use Rattle.lines.specs.Verdicts.{when}
 use Rattle.pieces.specs.Pieces.{pieceOf}
 use Rattle.pieces.specs.Turns.{turnOf}
 use Rattle.pieces.specs.declared.Turn.{Turn}

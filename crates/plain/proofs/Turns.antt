@@ -1,7 +1,7 @@
 -- The answers of asking for a plain form of an MT515: what format's proofs/Asking says of any message type.
 -- Assumes nothing.
 use Prim.Native.Nat.{ℕ}
-use mathlib.Core.Path.{_≡_, refl, sym, ap, _∙_}
+use mathlib.Core.Path.{_≡_, sym, ap, _∙_}
 use mathlib.Core.List.{List}
 use lib.ListN.{length}
 use Rattle.lines.specs.declared.Verdict.{Verdict}
@@ -10,7 +10,7 @@ use Rattle.format.specs.Asking as Asked
 use Rattle.format.proofs.Asking as Proved
 use Rattle.values.specs.Mt515.{mt515}
 use Rattle.values.proofs.Laid.{layout}
-use Rattle.mt515.specs.Reading.{verdictOf, readOf}
+use Rattle.mt515.specs.Reading.{readOf}
 use Rattle.mt515.specs.declared.Reading.{Reading}
 use Rattle.message.specs.Writing.{writingOf, writtenOver}
 use Rattle.message.specs.declared.Writing.{Writing}

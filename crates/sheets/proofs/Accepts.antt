@@ -2,21 +2,21 @@
 -- Assumes nothing.
 use Prim.Native.Nat.{ℕ, suc}
 use mathlib.Core.Path.{_≡_, refl, sym, ap, _∙_}
-use mathlib.Core.Bool.{Bool, true, false, _&&_, _||_, not, cond, or-true, true≢false}
-use mathlib.Core.List.{List, [], _∷_, _++_, map, append-assoc, append-nil}
+use mathlib.Core.Bool.{Bool, true, false, _&&_, _||_, not, or-true, true≢false}
+use mathlib.Core.List.{List, [], _∷_, _++_, append-nil}
 use lib.Dec.{eqb, leb}
-use lib.ListN.{length, drop}
-use lib.Seq.{drop-length, drop-append-seam}
+use lib.ListN.{length}
+use lib.Seq.{drop-append-seam}
 use borrow.Author.Tests.{eqb-true, eq-eqb, ne-eqb, leb-true, not-true}
 use native.Mathlib.Nat.{not-suc-le-zero}
 use Rattle.text.specs.Bytes.{begins, same}
 use Rattle.text.proofs.Bools.{is-false, or-none}
 use Rattle.text.proofs.Laws.{and-left, and-right, and-both, same-refl, same-eq, begins-append}
-use Rattle.layout.specs.Layout.{Taken, Run, refusedAt, taken, withTaken, layoutOf}
+use Rattle.layout.specs.Layout.{Taken, Run, taken, withTaken, layoutOf}
 use Rattle.sheets.specs.Trees.{Field, Member, Tree, last, line, block, group, chain, tableOf}
 use Rattle.sheets.specs.Sheets.{Entry, edge, held, lineOf, linesIn, takenIn, come, has, lacking, Among, front, later, Laid, shut, given, absent, opened, passed, member, done, Sheet}
 use Rattle.sheets.proofs.Checks.{goodSlot, goodFields, goodMembers, goodTree, Fit, starts, whole, fitsLine, clash, avoids, noneOf, apartFields, laterApart, apartMembers, apart}
-use Rattle.sheets.proofs.Machine.{Spot, within, first, over, Move, no, go, fit, next, seek, laterField, tell, moveOf, following, walk}
+use Rattle.sheets.proofs.Machine.{Spot, within, first, over, go, fit, next, seek, laterField, tell, moveOf, following, walk}
 use Rattle.sheets.proofs.Walk.{good-chain, layout-walk}
 
 -- ---- texts that do not clash

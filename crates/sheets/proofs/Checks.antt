@@ -1,8 +1,8 @@
 -- What a table has to be for its theorems, as tests that compute: every slot has its byte among the slots seen, no line fits
 -- two rows between which it has to choose, and the last line of all fits no other row.
 use Prim.Native.Nat.{ℕ}
-use mathlib.Core.Bool.{Bool, true, false, _&&_, _||_, not, cond}
-use mathlib.Core.List.{List, [], _∷_, _++_}
+use mathlib.Core.Bool.{Bool, true, false, _&&_, _||_, not}
+use mathlib.Core.List.{List, [], _∷_}
 use lib.Dec.{leb, ltb}
 use Rattle.text.specs.Bytes.{begins, same}
 use Rattle.stretches.specs.Stretches.{slotCount}

@@ -1,14 +1,13 @@
 -- Lines that are taken to the end are the lines of a sheet.
 -- Assumes nothing.
 use Prim.Native.Nat.{ℕ, suc}
-use mathlib.Core.Path.{_≡_, refl, sym, ap, subst, _∙_}
+use mathlib.Core.Path.{_≡_, refl, sym, ap, _∙_}
 use mathlib.Core.Bool.{Bool, true, false, _&&_, _||_, not, cond, true≢false}
 use mathlib.Core.List.{List, [], _∷_, _++_, append-assoc, append-nil}
-use lib.Dec.{eqb, leb}
+use lib.Dec.{eqb}
 use lib.ListN.{length, drop}
 use lib.Seq.{drop-append-seam}
-use borrow.Author.Tests.{ne-eqb, leb-true, not-true}
-use native.Mathlib.Nat.{not-suc-le-zero}
+use borrow.Author.Tests.{not-true}
 use Rattle.text.specs.Bytes.{begins, same}
 use Rattle.text.proofs.Bools.{of-both}
 use Rattle.text.proofs.Laws.{and-left, and-right, and-both, same-eq, begins-is}

@@ -1,13 +1,13 @@
 -- A table filled in is a sheet of the table, and it has the values that it was filled with.
 -- Assumes nothing.
 use Prim.Native.Nat.{ℕ}
-use mathlib.Core.Path.{_≡_, refl, sym, ap, subst, _∙_}
-use mathlib.Core.Bool.{Bool, true, false, _&&_, _||_, not, cond, true≢false}
+use mathlib.Core.Path.{_≡_, refl, sym, ap, _∙_}
+use mathlib.Core.Bool.{Bool, true, false, _||_, not, true≢false}
 use mathlib.Core.List.{List, [], _∷_, _++_, append-assoc}
 use lib.Dec.{eqb}
 use borrow.Author.Tests.{eqb-true, eq-eqb, not-true}
 use Rattle.text.proofs.Bools.{or-two, or-left, or-right, of-both}
-use Rattle.text.proofs.Laws.{and-left, and-right, and-both}
+use Rattle.text.proofs.Laws.{and-left, and-right}
 use Rattle.layout.specs.Layout.{taken, layoutOf}
 use Rattle.sheets.specs.Trees.{Field, Member, Tree, last, line, block, group, chain, tableOf}
 use Rattle.sheets.specs.Sheets.{Entry, edge, held, linesIn, takenIn, come, has, lacking, Among, front, later, Laid, shut, given, absent, opened, passed, member, done, Sheet}

@@ -2,10 +2,10 @@
 -- Assumes nothing.
 use Prim.Native.Nat.{ℕ}
 use mathlib.Core.Path.{_≡_, refl, sym, ap, _∙_}
-use mathlib.Core.Bool.{true, false, _||_, not}
+use mathlib.Core.Bool.{true, false, not}
 use mathlib.Core.List.{List, [], _∷_, _++_}
 use Rattle.text.specs.Bytes.{begins, same}
-use Rattle.text.proofs.Bools.{of-both, or-none, or-left, or-right}
+use Rattle.text.proofs.Bools.{or-none, or-left, or-right}
 use Rattle.text.proofs.Laws.{and-left, and-right}
 use Rattle.sheets.specs.Trees.{Tree, last, line, block, group}
 use Rattle.sheets.specs.Sheets.{Entry, edge, held, lineOf, linesIn, Laid, shut, given, absent, opened, passed, member, done}

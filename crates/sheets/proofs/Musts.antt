@@ -2,17 +2,17 @@
 -- Assumes nothing.
 use Prim.Native.Nat.{ℕ}
 use mathlib.Core.Path.{_≡_, refl, sym, ap, _∙_}
-use mathlib.Core.Bool.{Bool, true, false, _&&_, _||_, not, cond, true≢false}
+use mathlib.Core.Bool.{Bool, true, false, _||_, not, cond, true≢false}
 use mathlib.Core.List.{List, [], _∷_, _++_, map}
 use lib.Dec.{eqb}
 use borrow.Author.Tests.{eqb-true, not-false}
-use Rattle.text.proofs.Bools.{is-false, or-case, or-one, or-two, or-left, or-right}
-use Rattle.sheets.specs.Trees.{Field, Member, Tree, last, line, block, group, chain}
+use Rattle.text.proofs.Bools.{or-case, or-one, or-two, or-left, or-right}
+use Rattle.sheets.specs.Trees.{Field, Member, Tree, last, line, block, group}
 use Rattle.sheets.specs.Sheets.{Entry, edge, held, lineOf, linesIn, come, has, lacking, Laid, shut, given, absent, opened, passed, member, done, Sheet}
 use Rattle.sheets.specs.Filled.{some, anyField, anyMember, anyIn, filledFields, filledMembers, filled}
 use Rattle.sheets.proofs.Checks.{firstSlots, mustSlots}
 use Rattle.sheets.proofs.Accepts.{come-append}
-use Rattle.sheets.proofs.Emits.{has-front, come-more}
+use Rattle.sheets.proofs.Emits.{come-more}
 use Rattle.sheets.proofs.Once.{has-append, slotsHeld}
 use Rattle.sheets.proofs.Order.{lines-both}
 

@@ -2,15 +2,15 @@
 -- Assumes nothing.
 use Prim.Native.Nat.{ℕ}
 use mathlib.Core.Path.{_≡_, refl, sym, ap, _∙_}
-use mathlib.Core.Bool.{Bool, true, false, _&&_, _||_, not, cond, or-assoc, true≢false}
+use mathlib.Core.Bool.{Bool, true, false, _||_, not, cond, or-assoc, true≢false}
 use mathlib.Core.List.{List, [], _∷_, _++_}
 use mathlib.Core.Logic.{_⊎_, inl, inr, ⊎-elim}
 use lib.Dec.{eqb}
 use borrow.Author.Tests.{eqb-true, eqb-false, not-true, eq-eqb, ne-eqb}
 use Rattle.text.proofs.Bools.{is-false, or-case, or-one, or-two, or-none, or-left, or-right}
 use Rattle.text.proofs.Laws.{and-left, and-right}
-use Rattle.sheets.specs.Trees.{Field, Member, Tree, last, line, block, group, chain}
-use Rattle.sheets.specs.Sheets.{Entry, edge, held, come, has, Among, front, later, Laid, shut, given, absent, opened, passed, member, done, Sheet}
+use Rattle.sheets.specs.Trees.{Field, Member, Tree, group, chain}
+use Rattle.sheets.specs.Sheets.{Entry, edge, held, has, Among, front, later, Laid, shut, given, absent, opened, passed, member, done}
 use Rattle.sheets.specs.Filled.{valueIn}
 use Rattle.sheets.proofs.Emits.{has-front, come-more, Fits}
 use Rattle.sheets.proofs.Checks.{fieldSlots, ownSlots, memberSlots, slotsOf, disjoint, distinct, soleMembers, sole}

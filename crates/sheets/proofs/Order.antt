@@ -3,10 +3,10 @@
 use Prim.Native.Nat.{ℕ}
 use mathlib.Core.Path.{_≡_, refl, sym, ap, subst, _∙_}
 use mathlib.Core.Bool.{Bool, true, false, _&&_, _||_, not, cond, true≢false}
-use mathlib.Core.List.{List, [], _∷_, _++_, map, append-assoc, append-nil}
+use mathlib.Core.List.{List, [], _∷_, _++_, append-assoc, append-nil}
 use mathlib.Core.Logic.{_⊎_, inl, inr, ⊎-elim}
 use lib.Dec.{eqb}
-use borrow.Author.Tests.{eqb-true, eq-eqb, not-true}
+use borrow.Author.Tests.{eqb-true, not-true}
 use Rattle.text.specs.Bytes.{begins, same}
 use Rattle.text.proofs.Bools.{is-false, or-case, or-one, or-two, or-none, or-left, or-right, of-both}
 use Rattle.text.proofs.Laws.{and-left, and-right, same-refl, same-eq, begins-append}
@@ -30,7 +30,7 @@ any-append o (l ∷ ls) ks = rw (any-append o ls ks) (on (same o l))
     on true = refl
     on false = refl
 
-none-both : (o : List ℕ) (ls ks : List (List ℕ)) → anyLine o ls ≡ false → anyLine o ks ≡ false → anyLine o (ls ++ ks) ≡ false
+pub none-both : (o : List ℕ) (ls ks : List (List ℕ)) → anyLine o ls ≡ false → anyLine o ks ≡ false → anyLine o (ls ++ ks) ≡ false
 none-both o ls ks h k = rw (any-append o ls ks) (or-none (anyLine o ls) _ h k)
 
 ahead-of : (o : List ℕ) (ls ks : List (List ℕ)) → anyLine o ls ≡ false → ahead o (ls ++ ks) ≡ ls ++ ahead o ks

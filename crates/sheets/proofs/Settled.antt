@@ -3,7 +3,7 @@
 -- Assumes nothing.
 use Prim.Native.Nat.{ℕ}
 use mathlib.Core.Path.{_≡_, refl, sym, ap, subst, _∙_}
-use mathlib.Core.Bool.{Bool, true, false, _&&_, _||_, not, true≢false}
+use mathlib.Core.Bool.{Bool, true, false, _||_, not, true≢false}
 use mathlib.Core.List.{List, [], _∷_, _++_}
 use mathlib.Core.Logic.{⊎-elim}
 use lib.Dec.{eqb}
@@ -11,13 +11,13 @@ use borrow.Author.Tests.{eqb-true, not-true}
 use Rattle.text.proofs.Laws.{and-left, and-right, and-both}
 use Rattle.sheets.specs.Trees.{Field, Member, Tree, last, line, block, group, chain}
 use Rattle.sheets.specs.Slots.{fieldSlots, ownSlots, memberSlots, slotsOf, firstSlots, mustSlots}
-use Rattle.sheets.specs.Sheets.{Entry, edge, held, come, has, Among, front, later, Laid, shut, given, absent, opened, passed, member, done, Sheet}
-use Rattle.sheets.specs.Filled.{some, valueIn, anyField, anyIn}
-use Rattle.text.proofs.Bools.{is-false, or-case, or-one, or-two, or-none, or-left, or-right}
-use Rattle.sheets.proofs.Checks.{disjoint, distinct, soleMembers, sole, allMembers, wholeMembers, complete, solidFields, solidMembers, solid, full}
+use Rattle.sheets.specs.Sheets.{Entry, held, come, has, Among, front, later, Laid, given, absent, opened, passed, Sheet}
+use Rattle.sheets.specs.Filled.{some, anyField, anyIn}
+use Rattle.text.proofs.Bools.{is-false, or-case, or-one, or-two, or-none, or-left}
+use Rattle.sheets.proofs.Checks.{disjoint, distinct, soleMembers, sole, allMembers, wholeMembers, complete, solidFields, solidMembers, solid}
 use Rattle.sheets.proofs.Emits.{has-front, no-value}
-use Rattle.sheets.proofs.Once.{has-append, apart-lists, slotsHeld, has-held, among-slots, chain-slots, inside, outside, Disjoint, one-or-apart, own-held, own-distinct}
-use Rattle.sheets.proofs.Order.{Units, none, unit, split, units-slots, none-fields, none-in, value-absent}
+use Rattle.sheets.proofs.Once.{has-append, apart-lists, slotsHeld, has-held, among-slots, inside, outside, Disjoint, one-or-apart, own-held, own-distinct}
+use Rattle.sheets.proofs.Order.{Units, none, unit, split, units-slots, none-fields, none-in}
 use Rattle.sheets.proofs.Musts.{come-held, musts-come}
 
 right-false : (b : Bool) → (b || false) ≡ b

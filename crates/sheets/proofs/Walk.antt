@@ -2,22 +2,20 @@
 -- Assumes nothing.
 use Prim.Native.Nat.{ℕ, zero, suc, _+_, _-_, _≤_, _<_}
 use mathlib.Core.Path.{_≡_, refl, sym, ap, _∙_}
-use mathlib.Core.Bool.{Bool, true, false, _&&_, _||_, not, cond, true≢false}
+use mathlib.Core.Bool.{Bool, true, false, _&&_, _||_, cond, true≢false}
 use mathlib.Core.List.{List, [], _∷_}
-use native.Mathlib.Nat.{add-zero, not-suc-le-zero}
-use native.Mathlib.Numerals.{add-one}
+use native.Mathlib.Nat.{not-suc-le-zero}
 use native.Mathlib.Omega.{arith}
-use lib.Dec.{eqb, leb, ltb}
+use lib.Dec.{eqb, leb}
 use lib.ListN.{length, drop, getD, set, replicate, length-set, length-replicate, getD-replicate}
 use lib.Seq.{drop-drop, getD-set-same, getD-set-other}
-use borrow.Author.Tests.{leb-true, ltb-true, eq-eqb, ne-eqb, eqb-true, eqb-false}
+use borrow.Author.Tests.{leb-true, ltb-true, ne-eqb, eqb-true, eqb-false}
 use Rattle.text.specs.Bytes.{begins, same}
 use Rattle.text.proofs.Laws.{and-left, and-right, and-both}
 use Rattle.layout.specs.Rows.{Row, field, opens, closes, many, mark, back, ends}
-use Rattle.layout.specs.Layout.{wrong, moves, takes, fits, enters, isSeen, lacks, beneath, against, look, onward, scan, stepOf, Run, refusedAt, taken, withTaken, marked, behind, runOf, layoutOf}
+use Rattle.layout.specs.Layout.{wrong, moves, fits, isSeen, lacks, beneath, against, look, onward, scan, stepOf, withTaken, marked, behind, runOf, layoutOf}
 use Rattle.layout.specs.declared.Place.{Place}
 use Rattle.layout.specs.declared.Step.{Step}
-use Rattle.layout.specs.declared.Look.{Look}
 use Rattle.layout.specs.declared.Look.the-variants.{Decided, Further}
 use Rattle.stretches.specs.Stretches.{slotCount}
 use Rattle.sheets.specs.Trees.{Field, Member, Tree, last, line, block, group, chain, fieldRows, memberRows, rowsIn, tableOf}

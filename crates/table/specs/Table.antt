@@ -5,7 +5,6 @@ use Prim.Native.Nat.{ℕ}
 use Prim.Native.String.{String}
 use mathlib.Core.List.{List, [], _∷_, _++_, map}
 use lib.ListN.{getD}
-use Rattle.text.specs.Bytes.{bytes}
 use Rattle.forms.specs.Forms.{Slot, nothing, codes, amount, date, moment, narrative, other, valueNumber}
 use Rattle.forms.specs.Notation.{slot, oneOf}
 

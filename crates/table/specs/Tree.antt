@@ -2,7 +2,7 @@
 use Prim.Native.Nat.{ℕ}
 use Prim.Native.String.{String}
 use mathlib.Core.Bool.{true, false}
-use mathlib.Core.List.{List, [], _∷_}
+use mathlib.Core.List.{[], _∷_}
 use Rattle.text.specs.Bytes.{bytes}
 use Rattle.sheets.specs.Trees.{Member, Tree, last, line, block, group}
 use Rattle.sheets.specs.Notation.{must, may, field, link}

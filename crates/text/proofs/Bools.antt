@@ -1,7 +1,11 @@
--- Small laws of tests and choices: two tests of which one holds, or neither, and what both sides of a choice have.
+-- Small laws of tests and choices: two tests of which one holds, or neither, whether two numbers are the same, and what both
+-- sides of a choice have.
 -- Assumes nothing.
+use Prim.Native.Nat.{ℕ}
 use mathlib.Core.Path.{_≡_, refl, sym}
 use mathlib.Core.Bool.{Bool, true, false, _||_, cond, true≢false}
+use lib.Dec.{eqb}
+use borrow.Author.Tests.{eq-eqb, ne-eqb, eqb-true, eqb-false}
 
 -- where a test is not true it is false
 pub is-false : (b : Bool) → (b ≡ true → ⊥) → b ≡ false
@@ -31,6 +35,14 @@ or-left false b e = refl
 pub or-right : (a b : Bool) → (a || b) ≡ false → b ≡ false
 or-right true b e = absurd (true≢false e)
 or-right false b e = e
+
+-- whether two numbers are the same does not look at their order
+pub eqb-turn : (a b : ℕ) → eqb a b ≡ eqb b a
+eqb-turn a b = go (eqb b a) refl
+  where
+    go : (t : Bool) → eqb b a ≡ t → eqb a b ≡ t
+    go true e = eq-eqb a b (sym (eqb-true b a e))
+    go false e = ne-eqb a b (λ h. eqb-false b a e (sym h))
 
 -- a choice has what both its sides have
 pub of-both : {A : Type 0} (P : A → Type 0) (b : Bool) {x y : A} → (b ≡ true → P x) → (b ≡ false → P y) → P (cond b x y)

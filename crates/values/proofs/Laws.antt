@@ -2,10 +2,10 @@
 -- (`record-back`), and these are a message's (`values-held`); and the record of a message's values is in form, and its values are
 -- those, with the amounts tidied (`values-back`).
 -- Assumes nothing.
-use Prim.Native.Nat.{ℕ, _+_, _≤_, _<_}
+use Prim.Native.Nat.{ℕ, _≤_, _<_}
 use mathlib.Core.Path.{_≡_, refl, sym, ap, _∙_}
 use mathlib.Core.Bool.{Bool, true, false, _&&_, _||_, not, true≢false, or-true}
-use mathlib.Core.List.{List, [], _∷_, _++_}
+use mathlib.Core.List.{List, [], _∷_}
 use mathlib.Core.Logic.{_⊎_, inl, inr}
 use native.Mathlib.Omega.{arith}
 use lib.Dec.{leb, ltb, eqb}
@@ -19,13 +19,13 @@ use Rattle.amount.specs.Amounts.{amountRead, amountNumber, amountText, inForm a
 use Rattle.amount.proofs.Laws.{amount-round}
 use Rattle.calendar.specs.Dates.{dateNumber, dateText, momentRead, momentNumber, momentText}
 use Rattle.calendar.proofs.Laws.{date-round, moment-round}
-use Rattle.forms.specs.Forms.{Form, amount, isCode, wordAt, isWord, unless, formNumber, valueNumber}
+use Rattle.forms.specs.Forms.{amount, isCode, wordAt, isWord, unless, formNumber}
 use Rattle.forms.specs.Narrative.{isNarrative}
 use Rattle.forms.proofs.Laws.{unless-good}
 use Rattle.forms.proofs.Narratives.{nothing}
 use Rattle.sheets.specs.Slots.{fieldSlots, ownSlots, memberSlots, slotsOf, firstSlots, mustSlots}
 use Rattle.sheets.specs.Sheets.{has}
-use Rattle.sheets.specs.Filled.{some, anyIn, anyField, anyMember}
+use Rattle.sheets.specs.Filled.{some, anyIn, anyField}
 use Rattle.sheets.proofs.Checks.{complete, allMembers, wholeMembers, solid, solidMembers, solidFields}
 use Rattle.format.specs.Format.{everySlot, optional}
 use Rattle.format.specs.Reading.{rulesOf}

@@ -7,8 +7,8 @@ use mathlib.Core.List.{List, [], _∷_, _++_}
 use native.Mathlib.Omega.{arith}
 use lib.Dec.{eqb}
 use lib.ListN.{length}
-use borrow.Author.Tests.{eqb-true, eqb-false, eq-eqb, ne-eqb}
-use Rattle.text.proofs.Bools.{or-left, or-right}
+use borrow.Author.Tests.{ne-eqb}
+use Rattle.text.proofs.Bools.{or-left, or-right, eqb-turn}
 use Rattle.forms.specs.Forms.{Slot}
 use Rattle.forms.specs.Slots.{slotAt}
 use Rattle.layout.specs.Rows.{rowsOf}
@@ -36,17 +36,10 @@ left-out o f (b ∷ v) = rw (ne-eqb (suc (length v)) 0 (λ h. let z : ⊥ = omeg
 
 -- ---- the slots that are optional, as a list: a test of each number that the list or the layout has tells of all numbers
 
-eqb-sym : (a b : ℕ) → eqb a b ≡ eqb b a
-eqb-sym a b = go (eqb a b) refl
-  where
-    go : (t : Bool) → eqb a b ≡ t → eqb a b ≡ eqb b a
-    go true e = e ∙ sym (eq-eqb b a (sym (eqb-true a b e)))
-    go false e = e ∙ sym (ne-eqb b a (λ h. eqb-false a b e (sym h)))
-
 any-has : (ns : List ℕ) (s : ℕ) → isAny ns s ≡ has ns s
 unfolding has
 any-has [] s = refl
-any-has (n ∷ ns) s = rw (eqb-sym s n, any-has ns s)
+any-has (n ∷ ns) s = rw (eqb-turn s n, any-has ns s)
 
 module _ (F : Format) where
   unfoldable pub optionalIn : List ℕ → ℕ → Bool
