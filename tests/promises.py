@@ -4,7 +4,9 @@
 Every `pub fn` of every crate's sources has an `ensures` and no `requires`, but for the functions that docs/PROMISES.md lists
 under "## Functions with a requires", each with its reason; and every one of them is named in that file. So is every must-fail
 edit, by its name, whether the gate tries it or tests/edits. An `ensures` has an equation for the answer, and one for what each
-buffer lent to be written holds afterwards: by demands' law `one-answer` two programs that keep it then do the same.
+buffer lent to be written holds afterwards: by demands' law `one-answer` two programs that keep it then do the same. That holds
+only of an equation whose left side is the whole of the one and whose right side speaks of what was given, and so neither of the
+answer nor of what a buffer holds afterwards: `r ≡ r` says nothing, and `r .0 ≡ x` not all.
 
 Usage: promises.py ROOT           check the repository at ROOT
        promises.py --self-test    check this program on a made-up source
@@ -22,7 +24,8 @@ SILENT = re.compile(r'//[^\n]*|/\*.*?\*/|"(?:\\.|[^"\\])*"|\bb\'(?:\\x[0-9A-Fa-f
 FUNCTION = re.compile(r'\bpub\s+(?:extern\s+"[^"]*"\s+)?fn\s+(\w+)')
 IMPL = re.compile(r'\bimpl\s+(\w+)[^{;]*\{')
 CLAUSE = re.compile(r'\b(requires|ensures)\b|[\[({;]')
-EQUATION = re.compile(r'(r|r \.0|now r|now \(\w+ \.exit\)) ≡ ')
+EQUATION = re.compile(r'(r|now r|now \(\w+ \.exit\)) ≡ (.*)', re.S)
+AFTERWARDS = re.compile(r'(?<![\w.-])r(?![\w-])|\.exit\b')
 LENT = re.compile(r"(\w+)\s*:\s*&(?:'\w+\s+)?mut\b")
 ENTRY = re.compile(r'- `([\w:]+)`: *(\S.*)')
 
@@ -75,9 +78,10 @@ def facts(clause):
 
 def unsaid(parameters, answers, found):
     """What no equation of a contract speaks of: the answer, where there is one, and each parameter lent to be written."""
-    told = {m.group(1) for kind, text in found if kind == 'ensures' for m in map(EQUATION.match, facts(text)) if m}
+    equations = [m for kind, text in found if kind == 'ensures' for m in map(EQUATION.match, facts(text)) if m]
+    told = {m.group(1) for m in equations if not AFTERWARDS.search(m.group(2))}
     wanted = [name for name in LENT.findall(parameters)]
-    said = [] if not answers or told & {'r', 'r .0', 'now r'} else ['its answer']
+    said = [] if not answers or told & {'r', 'now r'} else ['its answer']
     return said + [name for name in wanted if f'now ({name} .exit)' not in told]
 
 
@@ -195,6 +199,24 @@ pub fn loose(buf: &mut [u8], n: &'a mut u8) -> u8
     4
 }
 
+pub fn same(x: u8) -> u8
+    ensures { λ r. ⌜ r ≡ r ⌝ }
+{
+    x
+}
+
+pub fn kept(buf: &mut [u8], at: u8) -> bool
+    ensures { λ r. ⌜ (r ≡ good at) × (now (buf .exit) ≡ over (now (buf .entry)) (now (buf .exit))) ⌝ }
+{
+    true
+}
+
+pub fn partly(at: u8) -> Par
+    ensures { λ r. ⌜ r .0 ≡ at ⌝ }
+{
+    Par(at)
+}
+
 pub fn choosy<'a>(x: &'a [u8]) -> u8
     requires { ⌜ 1 ≤ length (now x) ⌝ }
     ensures { λ r. ⌜ r ≡ x' ⌝ }
@@ -204,7 +226,7 @@ pub fn choosy<'a>(x: &'a [u8]) -> u8
 """
 
 PAGE = """
-`good` and `Held::silent` and `c::choosy` and `loose`.
+`good` and `Held::silent` and `c::choosy` and `loose`, `same`, `kept` and `partly`.
 
 ## Functions with a requires
 
@@ -225,19 +247,26 @@ def self_test():
         ('f', 'c::good', 6, ['ensures'], []),
         ('f', 'c::Held::silent', 18, [], ['its answer']),
         ('f', 'c::loose', 24, ['ensures'], ['its answer', 'buf']),
-        ('f', 'c::choosy', 30, ['requires', 'ensures'], []),
+        ('f', 'c::same', 30, ['ensures'], ['its answer']),
+        ('f', 'c::kept', 36, ['ensures'], ['buf']),
+        ('f', 'c::partly', 42, ['ensures'], ['its answer']),
+        ('f', 'c::choosy', 48, ['requires', 'ensures'], []),
     ]
     silent = 'f:18: c::Held::silent has no ensures'
     loose = ['f:24: c::loose has no equation for its answer', 'f:24: c::loose has no equation for buf']
-    choosy = 'f:30: c::choosy has a requires and is not listed'
+    empty = [f'f:{line}: c::{name} has no equation for {what}' for line, name, what in
+             [(30, 'same', 'its answer'), (36, 'kept', 'buf'), (42, 'partly', 'its answer')]]
+    choosy = 'f:48: c::choosy has a requires and is not listed'
     cases = [
         (found, expected),
-        (violations(found, None), [silent, *loose, choosy]),
-        (violations(found, '`good`, `silent`, `loose`, `choosy(x)`'), [silent, 'f:18: docs/PROMISES.md does not name c::Held::silent', *loose, choosy]),
+        (violations(found, None), [silent, *loose, *empty, choosy]),
+        (violations(found, '`good`, `silent`, `loose`, `same`, `kept`, `partly`, `choosy(x)`'),
+         [silent, 'f:18: docs/PROMISES.md does not name c::Held::silent', *loose, *empty, choosy]),
         (violations(found, PAGE), [
             'docs/PROMISES.md:9: an exception is "- `crate::function`: reason"',
             silent,
             *loose,
+            *empty,
             'docs/PROMISES.md: c::good is listed, and has no requires',
             'docs/PROMISES.md: c::gone is listed, and there is no such public function',
         ]),

@@ -176,19 +176,19 @@ impl Par {
     pub const MAX: Par = Par(Amount::MAX);
 
     pub fn zero() -> Par
-        ensures { λ r. ⌜ r .0 ≡ nought ⌝ }
+        ensures { λ r. ⌜ r ≡ record { 0 = nought } ⌝ }
     {
         Par::ZERO
     }
 
     pub fn largest() -> Par
-        ensures { λ r. ⌜ r .0 ≡ most ⌝ }
+        ensures { λ r. ⌜ r ≡ record { 0 = most } ⌝ }
     {
         Par::MAX
     }
 
     pub fn of(amount: Amount) -> Par
-        ensures { λ r. ⌜ r .0 ≡ amount ⌝ }
+        ensures { λ r. ⌜ r ≡ record { 0 = amount } ⌝ }
     {
         Par(amount)
     }
@@ -203,19 +203,19 @@ impl Price {
     pub const MAX: Price = Price(Amount::MAX);
 
     pub fn zero() -> Price
-        ensures { λ r. ⌜ r .0 ≡ nought ⌝ }
+        ensures { λ r. ⌜ r ≡ record { 0 = nought } ⌝ }
     {
         Price::ZERO
     }
 
     pub fn largest() -> Price
-        ensures { λ r. ⌜ r .0 ≡ most ⌝ }
+        ensures { λ r. ⌜ r ≡ record { 0 = most } ⌝ }
     {
         Price::MAX
     }
 
     pub fn of(amount: Amount) -> Price
-        ensures { λ r. ⌜ r .0 ≡ amount ⌝ }
+        ensures { λ r. ⌜ r ≡ record { 0 = amount } ⌝ }
     {
         Price(amount)
     }
@@ -230,19 +230,19 @@ impl Money {
     pub const MAX: Money = Money(Amount::MAX);
 
     pub fn zero() -> Money
-        ensures { λ r. ⌜ r .0 ≡ nought ⌝ }
+        ensures { λ r. ⌜ r ≡ record { 0 = nought } ⌝ }
     {
         Money::ZERO
     }
 
     pub fn largest() -> Money
-        ensures { λ r. ⌜ r .0 ≡ most ⌝ }
+        ensures { λ r. ⌜ r ≡ record { 0 = most } ⌝ }
     {
         Money::MAX
     }
 
     pub fn of(amount: Amount) -> Money
-        ensures { λ r. ⌜ r .0 ≡ amount ⌝ }
+        ensures { λ r. ⌜ r ≡ record { 0 = amount } ⌝ }
     {
         Money(amount)
     }

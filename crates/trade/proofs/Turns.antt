@@ -61,7 +61,7 @@ module _ (value : ℕ → List ℕ) (t : Trade) {price par : Amount} {side kind 
       → t .trad ≡ momentOr0 (momentRead (value 7))
       → t .sett ≡ dateOr0 (dateRead (value 8))
       → price ≡ amountOr0 (amountRead (value 9))
-      → t .price .0 ≡ price
+      → t .price ≡ record { 0 = price }
       → side ≡ value 10
       → t .side ≡ sideIn side
       → kind ≡ value 11
@@ -69,7 +69,7 @@ module _ (value : ℕ → List ℕ) (t : Trade) {price par : Amount} {side kind 
       → t .buyer ≡ partyOf (value 12) (value 13) (value 14)
       → t .seller ≡ partyOf (value 15) (value 16) (value 17)
       → par ≡ amountOr0 (amountRead (value 18))
-      → t .par .0 ≡ par
+      → t .par ≡ record { 0 = par }
       → t .cusip ≡ textOf (value 19)
       → t .pool ≡ textOf (value 20)
       → narrative ≡ value 21
