@@ -87,13 +87,13 @@ nought = record { number = 0; decimals = 0 }
 abbrev pub most : Amount
 most = record { number = 99999999999999; decimals = 0 }
 
--- ---- steps of the code
-
--- a whole part and decimals that are both digits
-unfoldable pub partsRead : List ℕ → List ℕ → AmountRead
-partsRead w f = cond (allIn Digit w && allIn Digit f) (Good (valueFrom w f)) Wrong
-
 -- how many noughts stand in front
 unfoldable pub noughts : List ℕ → ℕ
 noughts [] = 0
 noughts (b ∷ s) = cond (eqb b 48) (suc (noughts s)) 0
+
+-- ---- a step of the code
+
+-- a whole part and decimals that are both digits
+unfoldable pub partsRead : List ℕ → List ℕ → AmountRead
+partsRead w f = cond (allIn Digit w && allIn Digit f) (Good (valueFrom w f)) Wrong

@@ -7,8 +7,7 @@ use mathlib.Core.List.{List, [], _∷_}
 use lib.Dec.{leb, ltb, eqb}
 use lib.ListN.{length, drop, getD}
 use Rattle.text.specs.Bytes.{bytes, begins, same}
-use Rattle.text.specs.Classes.{allIn, isDigit, isUpper}
-use Rattle.text.specs.declared.Class.the-variants.{C}
+use Rattle.text.specs.Classes.{isDigit, isUpper, isCode}
 use Rattle.lines.specs.Verdicts.{refused, pass}
 use Rattle.lines.specs.Lines.{linesOf}
 use Rattle.lines.specs.declared.Verdict.{Verdict}
@@ -26,12 +25,9 @@ isTagged l =
 unfoldable pub nameOf : List ℕ → List ℕ
 nameOf l = drop 5 l
 
-unfoldable pub isName : List ℕ → Bool
-isName s = leb 1 (length s) && (leb (length s) 16 && allIn C s)
-
--- a line with a bad name is wrong, whatever it would do
+-- a line with a bad name is wrong, whatever it would do: a name is 1 to 16 c
 unfoldable pub named : Role → List ℕ → Role
-named role name = cond (isName name) role Wrong
+named role name = cond (isCode 1 16 name) role Wrong
 
 unfoldable pub roleOf : List ℕ → Role
 roleOf l =

@@ -56,13 +56,7 @@ fn is_tagged(line: &[u8]) -> bool
 fn role_named(role: Role, name: &[u8]) -> Role
     ensures { λ r. ⌜ r ≡ named role (now (name .entry)) ⌝ }
 {
-    if name.len() < 1 {
-        return Role::Wrong;
-    }
-    if 16 < name.len() {
-        return Role::Wrong;
-    }
-    if !text::all_in(Class::C, name) {
+    if !text::is_code(name, 1, 16) {
         return Role::Wrong;
     }
     role

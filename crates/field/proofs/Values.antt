@@ -10,12 +10,12 @@ use lib.Dec.{leb, eqb}
 use lib.ListN.{length, drop, length-drop, length-append}
 use borrow.Author.Tests.{eqb-true, eqb-false, leb-true, le-leb, not-true}
 use Rattle.text.specs.Bytes.{bytes, begins, same, before}
-use Rattle.text.specs.Classes.{isBetween}
+use Rattle.text.specs.Classes.{isBetween, isCode}
 use Rattle.text.proofs.Laws.{and-left, and-right, begins-is, begins-length}
 use Rattle.digits.specs.Numerals as Numerals
 use Rattle.amount.specs.Amounts.{amountRead, isAmount, whole}
 use Rattle.calendar.specs.Dates.{dateRead, dateFrom, momentRead, momentFrom}
-use Rattle.forms.specs.Forms.{valueNumber, formNumber, unless, isCode, isWord, wordAt}
+use Rattle.forms.specs.Forms.{valueNumber, formNumber, unless, isWord, wordAt}
 use Rattle.forms.specs.Narrative.{isNarrative}
 use Rattle.forms.proofs.Laws.{unless-good, value-begins}
 use Rattle.table.specs.Table.{slots, slotOf, fixedOf, numberOf}

@@ -10,11 +10,11 @@ use lib.Dec.{leb, ltb, eqb}
 use lib.ListN.{length, drop, length-append}
 use borrow.Author.Tests.{leb-true, le-leb, not-true}
 use Rattle.text.specs.Bytes.{bytes, begins, same}
-use Rattle.text.specs.Classes.{isBetween, isDigit, isUpper}
+use Rattle.text.specs.Classes.{isBetween, isDigit, isUpper, isCode}
 use Rattle.text.proofs.Laws.{and-left, and-right, and-both, same-refl, same-eq, begins-is}
 use Rattle.lines.specs.Verdicts.{pass}
 use Rattle.lines.specs.declared.Verdict.{Verdict}
-use Rattle.blocks.specs.Blocks.{isTagged, nameOf, isName, named, roleOf, goes, ending, opening, closing, turn, follow, nest}
+use Rattle.blocks.specs.Blocks.{isTagged, nameOf, named, roleOf, goes, ending, opening, closing, turn, follow, nest}
 use Rattle.sheets.specs.Trees.{Field, Member, Tree, last, line, block, group, chain}
 use Rattle.sheets.specs.Sheets.{Entry, edge, held, lineOf, linesIn, Among, front, later, Laid, shut, given, absent, opened, passed, member, done}
 use Rattle.sheets.specs.Filled.{some}
@@ -29,7 +29,7 @@ fieldKey k = isTagged (k ++ bytes "-") && (not (begins (bytes ":16R:") k) && not
 
 -- a line that opens a block where d blocks are open, and the line that closes it
 unfoldable pub opensAt : ℕ → List ℕ → Bool
-opensAt d o = ltb d 8 && (begins (bytes ":16R:") o && isName (nameOf o))
+opensAt d o = ltb d 8 && (begins (bytes ":16R:") o && isCode 1 16 (nameOf o))
 
 unfoldable pub closer : List ℕ → List ℕ
 closer o = bytes ":16S:" ++ nameOf o
@@ -73,9 +73,9 @@ turn-field (a ∷ b ∷ c ∷ d ∷ e ∷ k) (x ∷ v) blocks h f =
     )
 
 -- the lines of a name: of the tag shape, as `:16R:` and `:16S:` and a character are
-module _ (name : List ℕ) (good : isName name ≡ true) where
+module _ (name : List ℕ) (good : isCode 1 16 name ≡ true) where
   tagged : (letter : ℕ) → isUpper letter ≡ true → isTagged (58 ∷ 49 ∷ 54 ∷ letter ∷ 58 ∷ name) ≡ true
-  unfolding isTagged isName isDigit isBetween
+  unfolding isTagged isCode isDigit isBetween
   tagged letter u =
       let some : 1 ≤ length name = leb-true 1 (length name) (and-left _ _ good) in
       rw (le-leb 6 (suc (suc (suc (suc (suc (length name)))))) (omega arith), u)
@@ -120,7 +120,7 @@ nests-opens : (n d : ℕ) (blocks : List (List ℕ)) (o : List ℕ) (es : List E
 unfolding opensAt lineOf nameOf bytes
 nests-opens n d blocks o es after h e k =
     let r = and-right (ltb d 8) _ h in
-    let is : o ≡ bytes ":16R:" ++ drop 5 o = begins-is (bytes ":16R:") o (and-left _ (isName (nameOf o)) r) in
+    let is : o ≡ bytes ":16R:" ++ drop 5 o = begins-is (bytes ":16R:") o (and-left _ (isCode 1 16 (nameOf o)) r) in
     let room : ltb (length blocks) 8 ≡ true = rw e (and-left (ltb d 8) _ h) in
     let t = turn-opens (drop 5 o) (and-right (begins (bytes ":16R:") o) _ r) blocks room in
     nests-line n blocks (nameOf o ∷ blocks) (edge o) es after (ap (λ x. turn (roleOf x) blocks (nameOf o)) is ∙ t) k

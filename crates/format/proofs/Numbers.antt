@@ -12,13 +12,14 @@ use Rattle.text.specs.Bytes.{bytes, begins, same}
 use Rattle.lines.specs.Verdicts.{refused, pass, then, when}
 use Rattle.lines.specs.Lines.{linesOf, ended, mayStand, sizePass, bytePass, endPass, linesPass}
 use Rattle.lines.specs.declared.Verdict.{Verdict}
-use Rattle.blocks.specs.Blocks.{Turn, goes, stops, over, ending, opening, closing, turn, named, roleOf, nameOf, isName, isTagged, follow, nest, nestPass}
+use Rattle.blocks.specs.Blocks.{Turn, goes, stops, over, ending, opening, closing, turn, named, roleOf, nameOf, isTagged, follow, nest, nestPass}
 use Rattle.amount.specs.Amounts.{amountRead, amountNumber}
 use Rattle.amount.specs.declared.AmountRead.{AmountRead}
 use Rattle.calendar.specs.Dates.{dateRead, dateNumber, momentRead, momentNumber}
 use Rattle.calendar.specs.declared.DateRead.{DateRead}
 use Rattle.calendar.specs.declared.MomentRead.{MomentRead}
-use Rattle.forms.specs.Forms.{Form, nothing, codes, words, amount, date, moment, narrative, other, Slot, isCode, isWord, unless, formNumber, valueNumber}
+use Rattle.forms.specs.Forms.{Form, nothing, codes, words, amount, date, moment, narrative, other, Slot, isWord, unless, formNumber, valueNumber}
+use Rattle.text.specs.Classes.{isCode}
 use Rattle.forms.specs.Narrative.{isNarrative}
 use Rattle.layout.specs.Rows.{Row, field, opens, closes, many, mark, back, ends}
 use Rattle.layout.specs.Layout.{Taken, Run, refusedAt, taken, fits, isSeen, lacks, beneath, against, look, onward, scan, stepOf, withTaken, marked, behind, runOf, layoutOf}
@@ -102,8 +103,8 @@ unfolding turn roleOf named
 turn-few l blocks =
     on (same (bytes "-") l) _ _ (ending-few blocks)
     (on (isTagged l) _ _
-    (on (begins (bytes ":16R:") l) _ _ (on (isName (nameOf l)) _ _ (opening-few blocks (nameOf l)) (few _ _ refl))
-    (on (begins (bytes ":16S:") l) _ _ (on (isName (nameOf l)) _ _ (closing-few blocks (nameOf l)) (few _ _ refl)) tt))
+    (on (begins (bytes ":16R:") l) _ _ (on (isCode 1 16 (nameOf l)) _ _ (opening-few blocks (nameOf l)) (few _ _ refl))
+    (on (begins (bytes ":16S:") l) _ _ (on (isCode 1 16 (nameOf l)) _ _ (closing-few blocks (nameOf l)) (few _ _ refl)) tt))
     (few _ _ refl))
   where
     on : (b : Bool) (x y : _) → FewTurn (turn x blocks (nameOf l)) → FewTurn (turn y blocks (nameOf l)) → FewTurn (turn (cond b x y) blocks (nameOf l))

@@ -10,7 +10,7 @@ use lib.Dec.{eqb}
 use lib.ListN.{length}
 use borrow.Author.Tests.{eqb-true, eq-eqb, ne-eqb}
 use Rattle.text.specs.Bytes.{bytes, begins, same, before}
-use Rattle.text.specs.Classes.{isBetween, isDigit, isUpper, isC, inClass, allIn}
+use Rattle.text.specs.Classes.{isBetween, isDigit, isUpper, isC, inClass, allIn, isCode}
 use Rattle.text.proofs.Bools.{or-case, or-one, or-two}
 use Rattle.text.proofs.Laws.{and-left, and-right, and-both, same-eq, same-refl}
 use Rattle.text.proofs.Printed.{printed}
@@ -18,11 +18,11 @@ use Rattle.lines.specs.Lines.{joined}
 use Rattle.lines.specs.Verdicts.{refused, pass, then, when}
 use Rattle.amount.specs.Amounts.{amountRead, amountNumber, isAmount, whole, tidy}
 use Rattle.amount.proofs.Laws.{tidy-amount, tidy-tidy}
-use Rattle.forms.specs.Forms.{Form, nothing, codes, words, amount, date, moment, narrative, other, isCode, isWord, wordAt, unless, formNumber, valueNumber}
+use Rattle.forms.specs.Forms.{Form, nothing, codes, words, amount, date, moment, narrative, other, isWord, wordAt, unless, formNumber, valueNumber}
 use Rattle.forms.proofs.Laws.{amount-good}
 use Rattle.forms.proofs.Widths.{longest, formWidth, bounded}
 use Rattle.forms.proofs.Printing.{allPrinted, printedForm}
-use Rattle.blocks.specs.Blocks.{isTagged, nameOf, isName}
+use Rattle.blocks.specs.Blocks.{isTagged, nameOf}
 use Rattle.sheets.specs.Trees.{chain}
 use Rattle.sheets.specs.Slots.{fieldSlots, ownSlots, memberSlots, slotsOf, firstSlots, mustSlots}
 use Rattle.sheets.specs.Sheets.{lineOf, linesIn, has}
@@ -46,7 +46,7 @@ use Rattle.format.proofs.Demands.{demands}
 -- ---- the layout, by computation
 
 pub layout : Layout specimen
-unfolding bytes begins same before isBetween isDigit isUpper isC inClass allIn printed amountRead isAmount whole isCode isWord wordAt unless formNumber valueNumber allPrinted printedForm isTagged nameOf isName chain fieldSlots ownSlots memberSlots slotsOf firstSlots mustSlots has groupsOf keysOf goodSlot goodFields goodMembers goodTree clash avoids noneOf apartFields laterApart apartMembers apart freeFields freeMembers free withFields withMembers withTree onceMembers once disjoint distinct soleMembers sole allFree closedMembers heavy tellable lastLine everySlot optional slots slotOf header general commission settlement status tree links fronts every isCodes noCode foreign isAmountForm apartText onceFront untouched tidyRow tidyFields tidyMembers tidyTree fieldKey opensAt closer fieldKeys memberKeys nestable fieldTexts memberTexts texts printable edges strangers
+unfolding bytes begins same before isBetween isDigit isUpper isC inClass allIn printed amountRead isAmount whole isCode isWord wordAt unless formNumber valueNumber allPrinted printedForm isTagged nameOf chain fieldSlots ownSlots memberSlots slotsOf firstSlots mustSlots has groupsOf keysOf goodSlot goodFields goodMembers goodTree clash avoids noneOf apartFields laterApart apartMembers apart freeFields freeMembers free withFields withMembers withTree onceMembers once disjoint distinct soleMembers sole allFree closedMembers heavy tellable lastLine everySlot optional slots slotOf header general commission settlement status tree links fronts every isCodes noCode foreign isAmountForm apartText onceFront untouched tidyRow tidyFields tidyMembers tidyTree fieldKey opensAt closer fieldKeys memberKeys nestable fieldTexts memberTexts texts printable edges strangers
 layout =
     record {
       good = refl;

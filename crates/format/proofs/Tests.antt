@@ -11,11 +11,11 @@ use lib.ListN.{length}
 use lib.Seq.{drop-append-seam}
 use borrow.Author.Tests.{eqb-true, eqb-false, not-true}
 use Rattle.text.specs.Bytes.{begins, same, before}
-use Rattle.text.specs.Classes.{isC, inClass, allIn}
+use Rattle.text.specs.Classes.{isC, inClass, allIn, isCode}
 use Rattle.text.specs.declared.Class.the-variants.{C}
 use Rattle.text.proofs.Laws.{and-left, and-right, and-both, same-eq, begins-append}
 use Rattle.amount.specs.Amounts.{whole, decimals, trimmed, shortened, tidy, isAmount, amountRead, amountNumber}
-use Rattle.forms.specs.Forms.{Form, nothing, codes, words, amount, date, moment, narrative, other, Slot, isCode, unless, formNumber, valueNumber}
+use Rattle.forms.specs.Forms.{Form, nothing, codes, words, amount, date, moment, narrative, other, Slot, unless, formNumber, valueNumber}
 use Rattle.forms.proofs.Laws.{value-begins}
 use Rattle.sheets.specs.Trees.{Field, Member, Tree, last, line, block, group}
 use Rattle.sheets.specs.Sheets.{has}

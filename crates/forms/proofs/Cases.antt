@@ -2,8 +2,8 @@
 -- Assumes nothing.
 use mathlib.Core.Path.{refl}
 use Rattle.text.specs.Bytes.{bytes, begins, same}
-use Rattle.text.specs.Classes.{allIn, inClass, isC, isUpper, isDigit, isBetween}
-use Rattle.forms.specs.Codes.{isCode, wordAt, isWord}
+use Rattle.text.specs.Classes.{allIn, inClass, isC, isUpper, isDigit, isBetween, isCode}
+use Rattle.forms.specs.Words.{wordAt, isWord}
 use Rattle.forms.specs.Narrative.{serviceIn, hasPeriod, periodIn, behindPeriod, hasReason, reasonIn, goodPeriod, goodReason, isNarrative}
 use Rattle.forms.specs.Forms.{unless, formNumber, valueNumber}
 use Rattle.forms.specs.Slots.{reaches, lineIn, textIn, wordsIn, formOf, formIn, slotAt}

@@ -10,7 +10,7 @@ use lib.Dec.{leb, ltb}
 use lib.ListN.{length, drop, getD, length-take}
 use borrow.Author.Tests.{leb-true, ltb-true, lt-ltb}
 use Rattle.text.specs.Bytes.{begins, same}
-use Rattle.text.specs.Classes.{allIn}
+use Rattle.text.specs.Classes.{allIn, isCode}
 use Rattle.text.specs.declared.Class.the-variants.{C, Digit}
 use Rattle.text.proofs.Laws.{and-left, and-right, same-eq, begins-is}
 use Rattle.amount.specs.Amounts.{isAmount, valueOf, amountRead, amountNumber}
@@ -19,7 +19,7 @@ use Rattle.calendar.specs.Dates.{dateRead, dateNumber, momentRead, momentNumber
 use Rattle.calendar.specs.declared.DateRead.{DateRead}
 use Rattle.calendar.specs.declared.MomentRead.{MomentRead}
 use Rattle.calendar.proofs.Laws.{date-back, date-length, date-digits, moment-back, moment-length, moment-digits}
-use Rattle.forms.specs.Forms.{Slot, isCode, wordAt, isWord, unless, formNumber, valueNumber}
+use Rattle.forms.specs.Forms.{Slot, wordAt, isWord, unless, formNumber, valueNumber}
 use Rattle.forms.specs.Slots.{reaches, textIn, slotAt}
 use Rattle.forms.proofs.Turns.{after-fixed}
 

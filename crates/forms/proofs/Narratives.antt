@@ -10,9 +10,9 @@ use lib.ListN.{length, take, drop, getD, take-append-drop, List·getD-eq-default
 use lib.Seq.{drop-drop, drop-cons}
 use borrow.Author.Tests.{leb-true, ltb-true, ltb-false, eqb-true}
 use Rattle.text.specs.Bytes.{bytes, begins}
-use Rattle.text.specs.Classes.{isDigit, isBetween}
+use Rattle.text.specs.Classes.{isDigit, isBetween, isCode}
 use Rattle.text.proofs.Laws.{and-left, and-right, begins-is}
-use Rattle.forms.specs.Codes.{isCode, isWord}
+use Rattle.forms.specs.Words.{isWord}
 use Rattle.forms.specs.Narrative.{services, serviceIn, hasPeriod, periodIn, behindPeriod, hasReason, reasonIn, goodPeriod, goodReason, isNarrative}
 
 pub nothing : (s : List ℕ) → length s ≡ 0 → s ≡ []

@@ -11,7 +11,8 @@ use Rattle.text.specs.Bytes.{begins}
 use Rattle.amount.specs.Amounts.{amountRead, amountNumber}
 use Rattle.calendar.specs.Dates.{dateRead, dateNumber, momentRead, momentNumber}
 use Rattle.forms.specs.Narrative.{isNarrative}
-unfoldable pub use Rattle.forms.specs.Codes.{isCode, wordAt, isWord}
+unfoldable pub use Rattle.forms.specs.Words.{wordAt, isWord}
+use Rattle.text.specs.Classes.{isCode}
 
 --   nothing     no more than the fixed text
 --   codes       from a least to a most number of c

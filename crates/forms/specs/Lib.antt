@@ -1,4 +1,4 @@
-pub mod Codes
+pub mod Words
 pub mod Narrative
 pub mod Forms
 pub mod Notation

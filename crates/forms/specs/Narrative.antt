@@ -6,8 +6,8 @@ use mathlib.Core.List.{List, [], _∷_}
 use lib.Dec.{eqb}
 use lib.ListN.{length, take, drop, getD}
 use Rattle.text.specs.Bytes.{bytes, begins}
-use Rattle.text.specs.Classes.{isDigit}
-use Rattle.forms.specs.Codes.{isCode, isWord}
+use Rattle.text.specs.Classes.{isDigit, isCode}
+use Rattle.forms.specs.Words.{isWord}
 
 abbrev pub services : List (List ℕ)
 services = bytes "SBOD" ∷ bytes "TFTD" ∷ bytes "STIP" ∷ []

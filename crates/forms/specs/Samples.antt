@@ -4,7 +4,7 @@ use Prim.Native.String.{String}
 use mathlib.Core.Path.{_≡_}
 use mathlib.Core.List.{List, [], _∷_, _++_, map}
 use Rattle.text.specs.Bytes.{bytes}
-use Rattle.forms.specs.Codes.{wordAt}
+use Rattle.forms.specs.Words.{wordAt}
 use Rattle.forms.specs.Forms.{valueNumber}
 use Rattle.forms.specs.Slots.{wordsIn, slotAt}
 

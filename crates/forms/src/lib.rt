@@ -1,33 +1,19 @@
 // The values of lines: each is judged by the fixed text and the form of its slot.
 //
 // Nothing here knows a slot: a message type hands its slots over as bytes. What is right stands in specs/Forms and specs/Slots,
-// over specs/Codes and specs/Narrative.
+// over specs/Words and specs/Narrative.
 pub mod narrative;
 
 use amount::Amount;
 use calendar::Date;
 use calendar::Moment;
-use text::Class;
 ghost use mathlib.Core.Path.{_≡_};
 ghost use mathlib.Core.List.{[]};
 ghost use Prim.Native.Nat.{_+_, _*_, _≤_};
 ghost use lib.Dec.{eqb};
 ghost use lib.ListN.{length, take, drop, getD};
-ghost use Rattle.forms.specs.Forms.{isCode, wordAt, isWord, unless, formNumber, valueNumber};
+ghost use Rattle.forms.specs.Forms.{wordAt, isWord, unless, formNumber, valueNumber};
 ghost use Rattle.forms.specs.Slots.{wordsOf, wordsIn, formOf, slotAt};
-
-// From a least to a most number of c.
-pub fn is_code(value: &[u8], least: usize, most: usize) -> bool
-    ensures { λ r. ⌜ r ≡ isCode least most (now (value .entry)) ⌝ }
-{
-    if value.len() < least {
-        return false;
-    }
-    if most < value.len() {
-        return false;
-    }
-    text::all_in(Class::C, value)
-}
 
 // The place of a value among words of four letters that stand one behind the other; their number where it is none of them.
 pub fn word_at(words: &[u8], value: &[u8]) -> usize
@@ -96,7 +82,7 @@ fn judge_form(slots: &[u8], line: &[u8], value: &[u8]) -> u64
     let most = line[2];
     match kind {
         0 => unless(value.len() == 0),
-        1 => unless(is_code(value, wide(least), wide(most))),
+        1 => unless(text::is_code(value, wide(least), wide(most))),
         2 => unless(word_in(slots, least, most, value) < wide(most)),
         3 => Amount::read(value).number(),
         4 => Date::read(value).number(),

@@ -2,7 +2,7 @@
 use text::Class;
 ghost use mathlib.Core.Path.{_≡_};
 ghost use lib.ListN.{drop};
-ghost use Rattle.forms.specs.Codes.{wordAt};
+ghost use Rattle.forms.specs.Words.{wordAt};
 ghost use Rattle.forms.specs.Narrative.{services, serviceIn, hasPeriod, periodIn, behindPeriod, hasReason, reasonIn, goodPeriod, goodReason, isNarrative};
 
 const SERVICES: [u8; 12] = *b"SBODTFTDSTIP";
@@ -93,7 +93,7 @@ fn good_reason(value: &[u8]) -> bool
     ensures { λ r. ⌜ r ≡ goodReason (now (value .entry)) ⌝ }
 {
     if has_reason(value) {
-        super::is_code(reason_in(value), 4, 4)
+        text::is_code(reason_in(value), 4, 4)
     } else {
         behind_period(value).len() == 0
     }

@@ -10,6 +10,13 @@ use lib.ListN.{length, take, drop}
 use lib.Seq.{drop-drop}
 use borrow.Author.Tests.{lt-ltb, le-ltb}
 use Rattle.format.specs.Writing as Any
+use Rattle.text.specs.Texts.{inForm as textForm}
+use Rattle.text.specs.declared.Text.{Text}
+use Rattle.sheets.specs.Slots.{fieldSlots, ownSlots, memberSlots, slotsOf, firstSlots, mustSlots}
+use Rattle.sheets.specs.Sheets.{has}
+use Rattle.table.specs.Table.{slots, slotOf}
+use Rattle.table.specs.Tree.{general, pool as pool-block, details, tree}
+use Rattle.trade.specs.declared.Party.{Party}
 use Rattle.trade.specs.declared.Trade.{Trade}
 use Rattle.lines.specs.Verdicts.{refused, pass, then, when}
 use Rattle.lines.specs.declared.Verdict.{Verdict}
@@ -17,8 +24,58 @@ use Rattle.lines.proofs.Laws.{stop, go}
 use Rattle.kinds.specs.Kinds.{recordPass}
 use Rattle.kinds.proofs.Turns.{stops, goes-on, broken, kept as passed}
 use Rattle.values.specs.Values.{valueOf}
-use Rattle.values.specs.Writable.{tests, hold, inForm}
+use Rattle.values.specs.Writable.{fitted, tests, hold, inForm}
+use Rattle.values.proofs.Fields.{fitted-must, fitted-may}
 use Rattle.judge.specs.Judging.{judgeOf}
+
+-- ---- the widths of the code's texts are those of their slots
+
+pub record Widths : Type 0 where
+  pub seme : (x : Text) → fitted 1 x ≡ textForm 1 16 x
+  pub mast : (x : Text) → fitted 4 x ≡ textForm 0 16 x
+  pub prev : (x : Text) → fitted 5 x ≡ textForm 0 16 x
+  pub list : (x : Text) → fitted 6 x ≡ textForm 0 16 x
+  pub buyer : (x : Text) → fitted 12 x ≡ textForm 4 4 x
+  pub buyer-contra : (x : Text) → fitted 13 x ≡ textForm 0 16 x
+  pub buyer-trader : (x : Text) → fitted 14 x ≡ textForm 0 20 x
+  pub seller : (x : Text) → fitted 15 x ≡ textForm 4 4 x
+  pub seller-contra : (x : Text) → fitted 16 x ≡ textForm 0 16 x
+  pub seller-trader : (x : Text) → fitted 17 x ≡ textForm 0 20 x
+  pub cusip : (x : Text) → fitted 19 x ≡ textForm 9 9 x
+  pub pool : (x : Text) → fitted 20 x ≡ textForm 0 9 x
+  pub password : (x : Text) → fitted 28 x ≡ textForm 0 12 x
+  pub sender : (x : Text) → fitted 29 x ≡ textForm 1 8 x
+
+pub widths : Widths
+unfolding slotOf slots slotsOf memberSlots ownSlots fieldSlots mustSlots firstSlots tree general pool-block details has
+widths =
+    record {
+      seme = λ x. fitted-must 1 1 16 x refl refl;
+      mast = λ x. fitted-may 4 16 x refl refl;
+      prev = λ x. fitted-may 5 16 x refl refl;
+      list = λ x. fitted-may 6 16 x refl refl;
+      buyer = λ x. fitted-must 12 4 4 x refl refl;
+      buyer-contra = λ x. fitted-may 13 16 x refl refl;
+      buyer-trader = λ x. fitted-may 14 20 x refl refl;
+      seller = λ x. fitted-must 15 4 4 x refl refl;
+      seller-contra = λ x. fitted-may 16 16 x refl refl;
+      seller-trader = λ x. fitted-may 17 20 x refl refl;
+      cusip = λ x. fitted-must 19 9 9 x refl refl;
+      pool = λ x. fitted-may 20 9 x refl refl;
+      password = λ x. fitted-must 28 0 12 x refl refl;
+      sender = λ x. fitted-must 29 1 8 x refl refl;
+    }
+
+abbrev pub partyTests : Party → Bool
+partyTests p = hold (textForm 4 4 (p .code) ∷ textForm 0 16 (p .reference) ∷ textForm 0 20 (p .trader) ∷ [])
+
+buyer-is : (t : Trade) → partyTests (t .buyer) ≡ hold (take 3 (drop 12 (tests t)))
+unfolding tests hold
+buyer-is t = rw (widths .buyer _, widths .buyer-contra _, widths .buyer-trader _)
+
+seller-is : (t : Trade) → partyTests (t .seller) ≡ hold (take 3 (drop 15 (tests t)))
+unfolding tests hold
+seller-is t = rw (widths .seller _, widths .seller-contra _, widths .seller-trader _)
 
 -- ---- the tests of a record, a stretch of their list at a time
 
@@ -32,13 +89,13 @@ hold-from : (k j : ℕ) (bs : List Bool) → hold (drop j bs) ≡ (hold (take k 
 hold-from k j bs = hold-split k (drop j bs) ∙ ap (λ (l : List Bool). hold (take k (drop j bs)) && hold l) (drop-drop k j bs)
 
 pub formed : (t : Trade) {a b c d e f : Bool} → a ≡ hold (take 7 (tests t)) → b ≡ hold (take 5 (drop 7 (tests t)))
-    → c ≡ hold (take 3 (drop 12 (tests t))) → d ≡ hold (take 3 (drop 15 (tests t)))
+    → c ≡ partyTests (t .buyer) → d ≡ partyTests (t .seller)
     → e ≡ hold (take 4 (drop 18 (tests t))) → f ≡ hold (drop 22 (tests t))
     → (a && (b && (c && (d && (e && f))))) ≡ inForm t
 unfolding inForm
 formed t p q r s u v =
     let l : List Bool = tests t in
-    rw (p, q, r, s, u, v) (sym (hold-split 7 l ∙ rw (hold-from 5 7 l, hold-from 3 12 l, hold-from 3 15 l, hold-from 4 18 l)))
+    rw (p, q, r ∙ buyer-is t, s ∙ seller-is t, u, v) (sym (hold-split 7 l ∙ rw (hold-from 5 7 l, hold-from 3 12 l, hold-from 3 15 l, hold-from 4 18 l)))
 
 -- ---- the first of the numbers
 

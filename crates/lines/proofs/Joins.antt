@@ -9,14 +9,14 @@ use native.Mathlib.Omega.{arith}
 use lib.Dec.{eqb}
 use lib.ListN.{length}
 use borrow.Author.Tests.{le-leb, eqb-true, not-true}
-use Rattle.text.specs.Bytes.{bytes, begins, same}
+use Rattle.text.specs.Bytes.{bytes, begins, same, before}
 use Rattle.text.specs.Classes.{isBetween}
 use Rattle.text.proofs.Bools.{or-case}
 use Rattle.text.proofs.Laws.{and-left, and-right, and-both}
 use Rattle.text.proofs.Printed.{printed}
 use Rattle.lines.specs.Verdicts.{refused, pass, then}
-use Rattle.lines.specs.Lines.{inFront, cutLines, bare, linesOf, ended, joined, sizePass, mayStand, bytePass, endPass, linesPass}
-use Rattle.lines.proofs.Laws.{print-lf, bare-print, plain, Closed, passed}
+use Rattle.lines.specs.Lines.{inFront, cutBehind, bare, withoutEnding, linesOf, ended, joined, sizePass, mayStand, bytePass, endPass, linesPass}
+use Rattle.lines.proofs.Laws.{print-lf, print-cr, lines-lf, lines-cr, lines-more, plain, Closed, passed}
 
 -- ---- lines of 20 to 7E hex
 
@@ -36,8 +36,8 @@ joined-front l ls rest = append-assoc l (13 ∷ 10 ∷ joined ls) rest
 
 -- ---- they are cut where they were joined
 
-cut-front : (l rest : List ℕ) → printed l ≡ true → cutLines (l ++ (13 ∷ 10 ∷ rest)) ≡ (l ++ (13 ∷ [])) ∷ cutLines rest
-unfolding printed cutLines inFront
+cut-front : (l rest : List ℕ) → printed l ≡ true → cutBehind (l ++ (13 ∷ 10 ∷ rest)) ≡ (l ++ (13 ∷ 10 ∷ [])) ∷ cutBehind rest
+unfolding printed cutBehind inFront
 cut-front [] rest h = refl
 cut-front (b ∷ l) rest h =
     rw (print-lf b (and-left _ _ h), cut-front l rest (and-right (isBetween 32 126 b) _ h))
@@ -48,16 +48,25 @@ bare-cr [] = refl
 bare-cr (b ∷ []) = refl
 bare-cr (b ∷ c ∷ l) = ap (λ (s : List ℕ). b ∷ s) (bare-cr (c ∷ l))
 
+before-lf : (l : List ℕ) → printed l ≡ true → before 10 (l ++ (13 ∷ 10 ∷ [])) ≡ l ++ (13 ∷ [])
+unfolding printed before
+before-lf [] h = refl
+before-lf (b ∷ l) h = rw (print-lf b (and-left _ _ h)) (ap (λ (s : List ℕ). b ∷ s) (before-lf l (and-right (isBetween 32 126 b) _ h)))
+
+ending-off : (l : List ℕ) → printed l ≡ true → withoutEnding (l ++ (13 ∷ 10 ∷ [])) ≡ l
+unfolding withoutEnding
+ending-off l h = ap bare (before-lf l h) ∙ bare-cr l
+
 -- lines in front of other bytes, and lines alone
 pub lines-front : (ls : List (List ℕ)) (rest : List ℕ) → allPrintable ls ≡ true → linesOf (joined ls ++ rest) ≡ ls ++ linesOf rest
 unfolding allPrintable linesOf joined
 lines-front [] rest h = refl
 lines-front (l ∷ ls) rest h =
-    rw (joined-front l ls rest, cut-front l (joined ls ++ rest) (and-left _ _ h), bare-cr l)
+    rw (joined-front l ls rest, cut-front l (joined ls ++ rest) (and-left _ _ h), ending-off l (and-left _ _ h))
     (ap (λ (x : List (List ℕ)). l ∷ x) (lines-front ls rest (and-right (printed l) _ h)))
 
 pub lines-joined : (ls : List (List ℕ)) → allPrintable ls ≡ true → linesOf (joined ls) ≡ ls
-unfolding linesOf cutLines
+unfolding linesOf cutBehind
 lines-joined ls h = ap linesOf (sym (append-nil (joined ls))) ∙ lines-front ls [] h ∙ append-nil ls
 
 -- ---- their bytes may stand, and the last of them has its ending
@@ -130,33 +139,28 @@ passes-joined ls w h =
 
 -- ---- what passes is cut into such lines
 
--- one such byte in front of a line, and in front of lines
-bare-more : (b : ℕ) (l : List ℕ) → isBetween 32 126 b ≡ true → printed (bare l) ≡ true → printed (bare (b ∷ l)) ≡ true
-unfolding printed
-bare-more b l h k = rw (bare-print b h l) (and-both h k)
+-- one such byte in front of them, LF, and a CR that belongs to an ending
+front-print : (b : ℕ) (ls : List (List ℕ)) → isBetween 32 126 b ≡ true → allPrintable ls ≡ true → allPrintable (inFront b ls) ≡ true
+unfolding inFront allPrintable printed
+front-print b [] h k = and-both (and-both h refl) refl
+front-print b (l ∷ ls) h k = and-both (and-both h (and-left _ _ k)) (and-right (printed l) _ k)
 
-lines-more : (b : ℕ) (ls : List (List ℕ)) → isBetween 32 126 b ≡ true → allPrintable (map bare ls) ≡ true → allPrintable (map bare (inFront b ls)) ≡ true
-unfolding inFront allPrintable printed bare
-lines-more b [] h k = and-both (bare-more b [] h refl) refl
-lines-more b (l ∷ ls) h k = and-both (bare-more b l h (and-left _ _ k)) (and-right (printed (bare l)) _ k)
-
--- a CR that belongs to an ending is no byte of a line
-lines-cr : (b : ℕ) (s : List ℕ) → eqb b 13 ≡ true → begins (bytes "\n") s ≡ true → allPrintable (linesOf s) ≡ true → allPrintable (linesOf (b ∷ s)) ≡ true
-unfolding linesOf cutLines inFront bare allPrintable printed begins bytes
-lines-cr b [] e f h = absurd (true≢false (sym f))
-lines-cr b (c ∷ s) e f h =
+ending-cr : (b : ℕ) (s : List ℕ) → eqb b 13 ≡ true → begins (bytes "\n") s ≡ true → allPrintable (linesOf s) ≡ true → allPrintable (linesOf (b ∷ s)) ≡ true
+unfolding allPrintable printed begins bytes
+ending-cr b [] e f h = absurd (true≢false (sym f))
+ending-cr b (c ∷ s) e f h =
     let p = eqb-true b 13 e in
     let q = eqb-true c 10 (and-left (eqb c 10) true f) in
-    rw (p, q) (rw q at h)
+    rw (p, q, lines-cr s) (rw (q, lines-lf s) at h)
 
 lines-byte : (b : ℕ) (s : List ℕ) → mayStand b s ≡ true → allPrintable (linesOf s) ≡ true → allPrintable (linesOf (b ∷ s)) ≡ true
-unfolding linesOf cutLines mayStand allPrintable printed bare
+unfolding mayStand allPrintable printed
 lines-byte b s h k =
-    or-case (isBetween 32 126 b) _ h (λ e. rw (print-lf b e) (lines-more b (cutLines s) e k))
-    (λ r. or-case (eqb b 10) _ r (λ e. rw e k) (λ e. lines-cr b s (and-left (eqb b 13) _ e) (and-right (eqb b 13) _ e) k))
+    or-case (isBetween 32 126 b) _ h (λ e. rw (lines-more b (print-lf b e) s (print-cr b e)) (front-print b (linesOf s) e k))
+    (λ r. or-case (eqb b 10) _ r (λ e. rw (eqb-true b 10 e, lines-lf s) k) (λ e. ending-cr b s (and-left (eqb b 13) _ e) (and-right (eqb b 13) _ e) k))
 
 lines-printable : (n : ℕ) (m : List ℕ) → bytePass n m .number ≡ 0 → allPrintable (linesOf m) ≡ true
-unfolding bytePass linesOf cutLines allPrintable refused
+unfolding bytePass linesOf cutBehind allPrintable refused
 lines-printable n [] z = refl
 lines-printable n (b ∷ s) z = at (lines-printable (cond (eqb b 10) (suc n) n) s) (mayStand b s) refl z
   where

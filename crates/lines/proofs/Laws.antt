@@ -4,7 +4,7 @@
 use Prim.Native.Nat.{ℕ, zero, suc, _+_, _-_, _≤_, _<_, min}
 use mathlib.Core.Path.{_≡_, refl, sym, ap, _∙_}
 use mathlib.Core.Bool.{Bool, true, false, _&&_, not, cond}
-use mathlib.Core.List.{List, [], _∷_, _++_, head-eq-of-cons-eq, tail-eq-of-cons-eq}
+use mathlib.Core.List.{List, [], _∷_, _++_, map, head-eq-of-cons-eq, tail-eq-of-cons-eq}
 use native.Mathlib.Nat.{not-suc-le-zero, add-zero, sub-zero, zero-sub, suc-sub-suc}
 use native.Mathlib.Numerals.{add-one}
 use native.Mathlib.Omega.{arith}
@@ -16,7 +16,7 @@ use Rattle.text.specs.Bytes.{bytes, same, before}
 use Rattle.text.specs.Classes.{isBetween}
 use Rattle.text.proofs.Laws.{and-left, and-right, before-front, before-length, same-eq}
 use Rattle.lines.specs.Verdicts.{refused, pass, then}
-use Rattle.lines.specs.Lines.{inFront, cutLines, bare, linesOf, ended, sizePass, bytePass, endPass, linesPass, lineAt, startBehind, endOf}
+use Rattle.lines.specs.Lines.{inFront, cutBehind, bare, withoutEnding, linesOf, ended, sizePass, bytePass, endPass, linesPass, lineAt, startBehind, endOf}
 use Rattle.lines.specs.declared.Verdict.{Verdict}
 use Rattle.lines.specs.declared.Line.{Line}
 
@@ -78,37 +78,109 @@ module _ (b : ℕ) (e : isBetween 32 126 b ≡ true) where
   pub print-lf : eqb b 10 ≡ false
   print-lf = let l = print-low in ne-eqb b 10 (λ x. omega (arith, l, x))
 
+  pub print-cr : eqb b 13 ≡ false
+  print-cr = let l = print-low in ne-eqb b 13 (λ x. omega (arith, l, x))
+
   pub bare-print : (s : List ℕ) → bare (b ∷ s) ≡ b ∷ bare s
   unfolding bare
-  bare-print [] = let l = print-low in rw (ne-eqb b 13 (λ x. omega (arith, l, x)))
+  bare-print [] = rw print-cr
   bare-print (c ∷ s) = refl
 
 -- ---- the lines of a message, from the front
 
-cut-step : (b : ℕ) (s : List ℕ) → cutLines (b ∷ s) ≡ before 10 (b ∷ s) ∷ cutLines (drop (suc (length (before 10 (b ∷ s)))) (b ∷ s))
-unfolding cutLines inFront before
-cut-step b [] = at (eqb b 10)
+-- the first line with its ending, and the lines behind it
+cut-first : (b : ℕ) (s : List ℕ) → let n : ℕ = suc (length (before 10 (b ∷ s))) in cutBehind (b ∷ s) ≡ take n (b ∷ s) ∷ cutBehind (drop n (b ∷ s))
+unfolding cutBehind inFront before
+cut-first b [] = at (eqb b 10)
   where
-    at : (t : Bool) → cond t ([] ∷ []) ((b ∷ []) ∷ []) ≡ cond t [] (b ∷ []) ∷ cutLines (drop (length (cond t [] (b ∷ []))) [])
+    at : (t : Bool) → let n : ℕ = length (cond t [] (b ∷ [])) in cond t ((b ∷ []) ∷ []) ((b ∷ []) ∷ []) ≡ (b ∷ take n []) ∷ cutBehind (drop n [])
     at true = refl
     at false = refl
-cut-step b (c ∷ s) = at (cut-step c s) (eqb b 10)
+cut-first b (c ∷ s) = at (cut-first c s) (eqb b 10)
   where
-    at : cutLines (c ∷ s) ≡ before 10 (c ∷ s) ∷ cutLines (drop (suc (length (before 10 (c ∷ s)))) (c ∷ s)) → (t : Bool)
-        → cond t ([] ∷ cutLines (c ∷ s)) (inFront b (cutLines (c ∷ s)))
-        ≡ cond t [] (b ∷ before 10 (c ∷ s)) ∷ cutLines (drop (length (cond t [] (b ∷ before 10 (c ∷ s)))) (c ∷ s))
+    k : ℕ
+    k = suc (length (before 10 (c ∷ s)))
+
+    at : cutBehind (c ∷ s) ≡ take k (c ∷ s) ∷ cutBehind (drop k (c ∷ s)) → (t : Bool)
+        → let n : ℕ = length (cond t [] (b ∷ before 10 (c ∷ s))) in
+        cond t ((b ∷ []) ∷ cutBehind (c ∷ s)) (inFront b (cutBehind (c ∷ s))) ≡ (b ∷ take n (c ∷ s)) ∷ cutBehind (drop n (c ∷ s))
     at ih true = refl
     at ih false = ap (inFront b) ih
 
+pub cut-step : (s : List ℕ) → 0 < length s → let n : ℕ = suc (length (before 10 s)) in cutBehind s ≡ take n s ∷ cutBehind (drop n s)
+cut-step [] h = absurd (not-suc-le-zero h)
+cut-step (b ∷ s) h = cut-first b s
+
+-- what stands before its LF stands before the first LF of all
+before-line : (s : List ℕ) → before 10 (take (suc (length (before 10 s))) s) ≡ before 10 s
+unfolding before
+before-line [] = refl
+before-line (b ∷ s) = at (before-line s) (eqb b 10)
+  where
+    at : before 10 (take (suc (length (before 10 s))) s) ≡ before 10 s → (t : Bool)
+        → cond t [] (b ∷ before 10 (take (length (cond t [] (b ∷ before 10 s))) s)) ≡ cond t [] (b ∷ before 10 s)
+    at ih true = refl
+    at ih false = ap (λ (l : List ℕ). b ∷ l) ih
+
 -- a message that is not empty is its first line and the lines behind that
 pub lines-step : (s : List ℕ) → 0 < length s → linesOf s ≡ bare (before 10 s) ∷ linesOf (drop (length (before 10 s) + 1) s)
-unfolding linesOf
-lines-step [] h = absurd (not-suc-le-zero h)
-lines-step (b ∷ s) h = rw (add-one, cut-step b s)
+unfolding linesOf withoutEnding
+lines-step s h = rw (add-one, cut-step s h, before-line s)
 
 pub lines-none : linesOf [] ≡ []
-unfolding linesOf cutLines
+unfolding linesOf cutBehind
 lines-none = refl
+
+-- ---- and from byte to byte
+
+pub lines-lf : (s : List ℕ) → linesOf (10 ∷ s) ≡ [] ∷ linesOf s
+unfolding linesOf cutBehind withoutEnding before bare
+lines-lf s = refl
+
+-- a CR in front of LF is no byte of a line
+pub lines-cr : (s : List ℕ) → linesOf (13 ∷ 10 ∷ s) ≡ [] ∷ linesOf s
+unfolding linesOf cutBehind inFront withoutEnding before bare
+lines-cr s = refl
+
+-- another byte stands in front of its line, and so does a CR in front of another
+module _ (b : ℕ) (lf : eqb b 10 ≡ false) where
+  before-more : (s : List ℕ) → before 10 (b ∷ s) ≡ b ∷ before 10 s
+  unfolding before
+  before-more s = rw lf
+
+  bare-one : eqb b 13 ≡ false → bare (b ∷ []) ≡ b ∷ []
+  unfolding bare
+  bare-one cr = rw cr
+
+  cut-more : (s : List ℕ) → cutBehind (b ∷ s) ≡ inFront b (cutBehind s)
+  unfolding cutBehind
+  cut-more s = rw lf
+
+  pub lines-last : (s : List ℕ) → eqb b 13 ≡ false → linesOf (b ∷ 10 ∷ s) ≡ (b ∷ []) ∷ linesOf s
+  unfolding linesOf cutBehind inFront withoutEnding before
+  lines-last s cr = rw lf (ap (λ (l : List ℕ). l ∷ linesOf s) (ap bare (before-more (10 ∷ [])) ∙ bare-one cr))
+
+  off-inside : (c : ℕ) (l : List ℕ) → eqb c 10 ≡ false → withoutEnding (b ∷ c ∷ l) ≡ b ∷ withoutEnding (c ∷ l)
+  unfolding withoutEnding before bare
+  off-inside c l f = rw (lf, f)
+
+  pub lines-inside : (c : ℕ) (s : List ℕ) → eqb c 10 ≡ false → linesOf (b ∷ c ∷ s) ≡ inFront b (linesOf (c ∷ s))
+  unfolding linesOf cutBehind inFront
+  lines-inside c s f = rw (lf, f) (on (cutBehind s))
+    where
+      on : (ls : List (List ℕ)) → map withoutEnding (inFront b (inFront c ls)) ≡ inFront b (map withoutEnding (inFront c ls))
+      on [] = ap (λ (l : List ℕ). l ∷ []) (off-inside c [] f)
+      on (l ∷ ls) = ap (λ (k : List ℕ). k ∷ map withoutEnding ls) (off-inside c l f)
+
+  -- a byte that is no CR either
+  pub lines-more : (s : List ℕ) → eqb b 13 ≡ false → linesOf (b ∷ s) ≡ inFront b (linesOf s)
+  unfolding linesOf cutBehind inFront withoutEnding before bare
+  lines-more [] cr = rw lf (ap (λ (l : List ℕ). l ∷ []) (ap bare (before-more []) ∙ bare-one cr))
+  lines-more (c ∷ s) cr = on (eqb c 10) refl
+    where
+      on : (t : Bool) → eqb c 10 ≡ t → linesOf (b ∷ c ∷ s) ≡ inFront b (linesOf (c ∷ s))
+      on true e = rw (eqb-true c 10 e) (lines-last s cr)
+      on false e = lines-inside c s e
 
 -- ---- the same by places
 

@@ -11,16 +11,13 @@ use Rattle.text.specs.Classes.{isBetween}
 use Rattle.text.proofs.Laws.{and-left, and-right, and-both}
 use Rattle.text.proofs.Printed.{printed}
 use Rattle.lines.specs.Verdicts.{pass}
-use Rattle.lines.specs.Lines.{inFront, cutLines, bare, linesOf, ended, mayStand, bytePass}
+use Rattle.lines.specs.Lines.{inFront, linesOf, ended, mayStand, bytePass}
+use Rattle.lines.proofs.Laws.{lines-lf, lines-cr, lines-last, lines-inside}
 use Rattle.lines.proofs.Joins.{allPrintable}
 
 or-yes : (a : Bool) → (a || true) ≡ true
 or-yes true = refl
 or-yes false = refl
-
-and-one : {a : Bool} → a ≡ true → (a && true) ≡ true
-and-one {a = true} h = refl
-and-one {a = false} h = h
 
 abbrev Printable : List ℕ → Type 0
 Printable m = allPrintable (linesOf m) ≡ true
@@ -32,43 +29,37 @@ record Stands (b : ℕ) (s : List ℕ) : Type 0 where
 
 -- an LF
 stands-end : (b : ℕ) (s : List ℕ) → eqb b 10 ≡ true → Printable (b ∷ s) → Stands b s
-unfolding linesOf cutLines allPrintable mayStand isBetween bare printed
-stands-end b s e p = record { here = rw (eqb-true b 10 e); rest = rw e at p }
+unfolding allPrintable mayStand isBetween printed
+stands-end b s e p = let q = eqb-true b 10 e in record { here = rw q; rest = rw (q, lines-lf s) at p }
 
 -- a byte in front of an LF: a CR, or one of 20 to 7E hex
 stands-last : (b c : ℕ) (s : List ℕ) → eqb b 10 ≡ false → eqb c 10 ≡ true → Printable (b ∷ c ∷ s) → Stands b (c ∷ s)
-unfolding linesOf cutLines inFront allPrintable mayStand bare printed begins bytes
-stands-last b c s e f p = on (eqb b 13) refl (rw (e, f) at p)
+unfolding allPrintable mayStand printed begins bytes
+stands-last b c s e f p = rw (eqb-true c 10 f) (on (eqb b 13) refl (rw (eqb-true c 10 f) at p))
   where
-    ls : List (List ℕ)
-    ls = map bare (cutLines s)
-
-    behind : allPrintable ls ≡ true → Printable (c ∷ s)
-    behind q = rw f q
-
-    on : (r : Bool) → eqb b 13 ≡ r → allPrintable (cond r [] (b ∷ []) ∷ ls) ≡ true → Stands b (c ∷ s)
-    on true h q = record { here = rw (h, e, f) (or-yes (isBetween 32 126 b)); rest = behind q }
+    on : (r : Bool) → eqb b 13 ≡ r → Printable (b ∷ 10 ∷ s) → Stands b (10 ∷ s)
+    on true h q = record { here = rw (h, e) (or-yes (isBetween 32 126 b)); rest = rw (lines-lf s) (rw (eqb-true b 13 h, lines-cr s) at q) }
     on false h q =
-        let k = and-left (isBetween 32 126 b && true) _ q in
-        record { here = rw (and-left (isBetween 32 126 b) true k); rest = behind (and-right (isBetween 32 126 b && true) _ q) }
+        let k = rw (lines-last b e s h) at q in
+        record {
+          here = rw (and-left (isBetween 32 126 b) true (and-left (isBetween 32 126 b && true) _ k));
+          rest = rw (lines-lf s) (and-right (isBetween 32 126 b && true) _ k);
+        }
 
 -- a byte in front of another
 stands-inside : (b c : ℕ) (s : List ℕ) → eqb b 10 ≡ false → eqb c 10 ≡ false → Printable (b ∷ c ∷ s) → Stands b (c ∷ s)
-unfolding linesOf cutLines inFront allPrintable mayStand bare printed
-stands-inside b c s e f p = on (cutLines s) refl (rw (e, f) at p)
+unfolding inFront allPrintable mayStand printed
+stands-inside b c s e f p = on (linesOf (c ∷ s)) refl (rw (lines-inside b e c s f) at p)
   where
-    on : (ls : List (List ℕ)) → cutLines s ≡ ls → allPrintable (map bare (inFront b (inFront c ls))) ≡ true → Stands b (c ∷ s)
+    on : (ls : List (List ℕ)) → linesOf (c ∷ s) ≡ ls → allPrintable (inFront b ls) ≡ true → Stands b (c ∷ s)
     on [] h q =
-        let k = and-left (isBetween 32 126 b && printed (bare (c ∷ []))) _ q in
-        record {
-          here = rw (and-left (isBetween 32 126 b) _ k);
-          rest = rw (f, h) (and-one (and-right (isBetween 32 126 b) _ k));
-        }
+        let k = and-left (isBetween 32 126 b && true) true q in
+        record { here = rw (and-left (isBetween 32 126 b) true k); rest = rw h }
     on (l ∷ ls) h q =
-        let k = and-left (isBetween 32 126 b && printed (bare (c ∷ l))) _ q in
+        let k = and-left (isBetween 32 126 b && printed l) _ q in
         record {
           here = rw (and-left (isBetween 32 126 b) _ k);
-          rest = rw (f, h) (and-both (and-right (isBetween 32 126 b) _ k) (and-right (isBetween 32 126 b && printed (bare (c ∷ l))) _ q));
+          rest = rw h (and-both (and-right (isBetween 32 126 b) _ k) (and-right (isBetween 32 126 b && printed l) _ q));
         }
 
 stands-at : (b c : ℕ) (s : List ℕ) → Printable (b ∷ c ∷ s) → Stands b (c ∷ s)

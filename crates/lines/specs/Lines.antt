@@ -18,10 +18,10 @@ unfoldable pub inFront : ℕ → List (List ℕ) → List (List ℕ)
 inFront b [] = (b ∷ []) ∷ []
 inFront b (l ∷ ls) = (b ∷ l) ∷ ls
 
--- a text cut at each LF; one that ends in LF has no further, empty line
-unfoldable pub cutLines : List ℕ → List (List ℕ)
-cutLines [] = []
-cutLines (b ∷ s) = cond (eqb b 10) ([] ∷ cutLines s) (inFront b (cutLines s))
+-- a text cut behind each LF; one that ends in LF has no further, empty line
+unfoldable pub cutBehind : List ℕ → List (List ℕ)
+cutBehind [] = []
+cutBehind (b ∷ s) = cond (eqb b 10) ((b ∷ []) ∷ cutBehind s) (inFront b (cutBehind s))
 
 -- a line without the CR that belongs to its ending
 unfoldable pub bare : List ℕ → List ℕ
@@ -29,8 +29,12 @@ bare [] = []
 bare (b ∷ []) = cond (eqb b 13) [] (b ∷ [])
 bare (b ∷ c ∷ s) = b ∷ bare (c ∷ s)
 
+-- and without its LF
+unfoldable pub withoutEnding : List ℕ → List ℕ
+withoutEnding l = bare (before 10 l)
+
 unfoldable pub linesOf : List ℕ → List (List ℕ)
-linesOf m = map bare (cutLines m)
+linesOf m = map withoutEnding (cutBehind m)
 
 -- the last line has its ending
 unfoldable pub ended : List ℕ → Bool

@@ -6,7 +6,7 @@ use Rattle.digits.specs.Numerals.{digits}
 use Rattle.amount.specs.Amounts.{trimmed}
 use Rattle.trade.specs.Records.{nobody, blankTrade}
 use Rattle.values.specs.Values.{kindWord}
-use Rattle.mt515.specs.Cases.{tradeOfB}
+use Rattle.values.specs.Cases.{b as tradeOfB}
 use Rattle.listing.specs.Rows.{spaced, heading, decimal, shown, told, untold, fieldsOf, rowOf}
 use Rattle.listing.specs.Cases.{Answered}
 

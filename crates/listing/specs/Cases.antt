@@ -3,7 +3,7 @@
 use mathlib.Core.Path.{_≡_}
 use Rattle.text.specs.Bytes.{bytes}
 use Rattle.trade.specs.Records.{blankTrade}
-use Rattle.mt515.specs.Cases.{tradeOfB}
+use Rattle.values.specs.Cases.{b as tradeOfB}
 use Rattle.listing.specs.Rows.{heading, rowOf}
 
 -- B is accepted with its record; `X` and `-` get 4 at line 2, beside the blank record

@@ -1,31 +1,54 @@
 -- B and its neighbours get what the table says, by computation.
 -- Assumes nothing.
-use mathlib.Core.Path.{refl}
+use Prim.Native.Nat.{ℕ}
+use mathlib.Core.Path.{_≡_, refl, sym, ap, _∙_}
+use mathlib.Core.Bool.{false}
+use lib.Dec.{eqb}
+use lib.ListN.{getD}
+use borrow.Author.Tests.{eqb-false}
 use Rattle.format.specs.Reading as Any
 use Rattle.reader.specs.Header.{headVerdict, headPass, headValue}
 use Rattle.reader.specs.Take.{passOf}
 use Rattle.sheets.specs.Trees.{fieldRows, memberRows, rowsIn, tableOf}
-use Rattle.mt515.specs.Cases.{b, ended, without, with, behind, exchanged, cases, tradeOfB, Answered}
+use Rattle.mt515.specs.Cases.{b, ended, without, with, behind, exchanged, cases, Unlike, AllUnlike, Answered}
+use Rattle.values.specs.Cases.{b as tradeOfB}
 use Rattle.mt515.specs.Reading.{readOf}
 use Rattle.table.specs.Table.{slots, header, slotOf}
 use Rattle.table.specs.Tree.{general, pool, details, tree}
 use Rattle.walk.specs.Walk.{bodyPass, takenIn, valueVerdict, valuesPass, valueFrom}
-use Rattle.lines.specs.Lines.{inFront, cutLines, bare, linesOf, ended as ended-lines, sizePass, mayStand, bytePass, endPass, linesPass, lineAt}
+use Rattle.lines.specs.Lines.{inFront, cutBehind, bare, withoutEnding, linesOf, ended as ended-lines, sizePass, mayStand, bytePass, endPass, linesPass, lineAt}
 use Rattle.lines.specs.Verdicts.{refused, pass, then, when}
-use Rattle.blocks.specs.Blocks.{isTagged, nameOf, isName, named, roleOf, ending, opening, closing, turn, follow, nest, nestPass}
+use Rattle.blocks.specs.Blocks.{isTagged, nameOf, named, roleOf, ending, opening, closing, turn, follow, nest, nestPass}
 use Rattle.layout.specs.Layout.{fits, isSeen, lacks, beneath, against, look, onward, scan, stepOf, withTaken, marked, behind as behind-layout, runOf, layoutOf}
-use Rattle.forms.specs.Forms.{isCode, wordAt, isWord, unless, formNumber, valueNumber}
+use Rattle.forms.specs.Forms.{wordAt, isWord, unless, formNumber, valueNumber}
 use Rattle.forms.specs.Narrative.{serviceIn, hasPeriod, periodIn, behindPeriod, hasReason, reasonIn, goodPeriod, goodReason, isNarrative}
 use Rattle.trade.specs.Narrative.{serviceOf, periodOf}
-use Rattle.trade.specs.Records.{kindIn, sideIn, partyOf, tradeOf, nobody, never, nought, blankTrade}
+use Rattle.trade.specs.Records.{kindIn, sideIn, partyOf, tradeOf, nobody, never, blankTrade}
+use Rattle.trade.specs.declared.Trade.{Trade}
 use Rattle.kinds.specs.Kinds.{other, own, contra, stray, functionOf, lacksField, tddkOnly, tddkNever, hasForbidden, recordPass, kindsPass}
 use Rattle.calendar.specs.Dates.{year, month, day, leap, lengths, monthLength, isDate, isTime, earlier, isMoment, dateFrom, dateRead, momentOf, momentFrom, momentRead, dateText, momentText}
 use Rattle.amount.specs.Amounts.{whole, decimals, isAmount, trimmed, joined, shortened, tidy, valueFrom as valueFrom-amounts, valueOf, amountRead, inForm, spread, amountText, partsRead, noughts}
 use Rattle.digits.specs.Numerals.{numeralFrom, numeral, digits, numberOf as numberOf-numerals, fixedOf, tenTo}
 use Rattle.text.specs.Bytes.{bytes, begins, same, before, parts}
-use Rattle.text.specs.Classes.{isBetween, isDigit, isUpper, isC, inClass, allIn}
+use Rattle.text.specs.Classes.{isBetween, isDigit, isUpper, isC, inClass, allIn, isCode}
 use Rattle.text.specs.Texts.{contents, textOf, inForm as inForm-texts}
 
+-- records of which some number is not the same are different
+apart : (f : Trade → ℕ) (a b : ℕ) {t u : Trade} → f t ≡ a → f u ≡ b → eqb a b ≡ false → t ≡ u → ⊥
+apart f a b p q n e = eqb-false a b n (sym p ∙ ap f e ∙ q)
+
+long : Trade → ℕ
+long t = t .mast .len
+
+second : Trade → ℕ
+second t = getD (t .mast .bytes) 1 0
+
 pub answered : Answered
-unfolding Any.reading Any.bodyOf Any.valueOn Any.rulesOf Any.verdictOf Any.readOf headVerdict headPass headValue passOf fieldRows memberRows rowsIn tableOf bodyPass takenIn b ended without with behind exchanged cases tradeOfB readOf general pool details tree slots header slotOf valueVerdict valuesPass valueFrom inFront cutLines bare linesOf ended-lines sizePass mayStand bytePass endPass linesPass lineAt refused pass then isTagged nameOf isName named roleOf ending opening closing turn follow nest nestPass fits isSeen lacks beneath against look onward scan stepOf withTaken marked behind-layout runOf layoutOf isCode wordAt isWord unless formNumber valueNumber serviceIn hasPeriod periodIn behindPeriod hasReason reasonIn goodPeriod goodReason isNarrative serviceOf periodOf kindIn sideIn partyOf tradeOf nobody never nought blankTrade other own contra stray functionOf lacksField tddkOnly tddkNever hasForbidden when recordPass kindsPass year month day leap lengths monthLength isDate isTime earlier isMoment dateFrom dateRead momentOf momentFrom momentRead dateText momentText whole decimals isAmount trimmed joined shortened tidy valueFrom-amounts valueOf amountRead inForm spread amountText partsRead noughts numeralFrom numeral digits numberOf-numerals fixedOf tenTo bytes begins same before parts isBetween isDigit isUpper isC inClass allIn contents textOf inForm-texts
-answered = (refl, refl, refl)
+unfolding long second Any.reading Any.bodyOf Any.valueOn Any.rulesOf Any.verdictOf Any.readOf headVerdict headPass headValue passOf fieldRows memberRows rowsIn tableOf bodyPass takenIn b ended without with behind exchanged cases Unlike AllUnlike tradeOfB readOf general pool details tree slots header slotOf valueVerdict valuesPass valueFrom inFront cutBehind bare withoutEnding linesOf ended-lines sizePass mayStand bytePass endPass linesPass lineAt refused pass then isTagged nameOf named roleOf ending opening closing turn follow nest nestPass fits isSeen lacks beneath against look onward scan stepOf withTaken marked behind-layout runOf layoutOf isCode wordAt isWord unless formNumber valueNumber serviceIn hasPeriod periodIn behindPeriod hasReason reasonIn goodPeriod goodReason isNarrative serviceOf periodOf kindIn sideIn partyOf tradeOf nobody never blankTrade other own contra stray functionOf lacksField tddkOnly tddkNever hasForbidden when recordPass kindsPass year month day leap lengths monthLength isDate isTime earlier isMoment dateFrom dateRead momentOf momentFrom momentRead dateText momentText whole decimals isAmount trimmed joined shortened tidy valueFrom-amounts valueOf amountRead inForm spread amountText partsRead noughts numeralFrom numeral digits numberOf-numerals fixedOf tenTo bytes begins same before parts isBetween isDigit isUpper isC inClass allIn contents textOf inForm-texts
+answered = (
+  refl,
+  refl,
+  refl,
+  ((apart long 4 2 refl refl refl, (apart long 4 2 refl refl refl, tt)), ((apart second 55 53 refl refl refl, tt), (tt, tt))),
+  refl,
+)

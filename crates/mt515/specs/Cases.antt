@@ -6,14 +6,9 @@ use mathlib.Core.List.{List, [], _∷_, _++_, map}
 use lib.ListN.{take, drop, getD, replicate}
 use Rattle.text.specs.Bytes.{bytes}
 use Rattle.text.specs.Texts.{textOf}
-use Rattle.text.specs.declared.Text.{Text}
 use Rattle.lines.specs.Verdicts.{refused}
-use Rattle.trade.specs.Records.{blankTrade}
-use Rattle.trade.specs.declared.Kind.{Kind}
-use Rattle.trade.specs.declared.Side.{Side}
-use Rattle.trade.specs.declared.Service.{Service}
-use Rattle.trade.specs.declared.Period.{Period}
 use Rattle.trade.specs.declared.Trade.{Trade}
+use Rattle.values.specs.Cases.{b as tradeOfB}
 use Rattle.mt515.specs.Reading.{verdictOf, readOf}
 
 unfoldable pub b : List String
@@ -93,39 +88,25 @@ cases =
     ∷ ("X" ∷ "-" ∷ [], 4, 2)
     ∷ []
 
--- the record of B
-abbrev text : String → Text
-text s = textOf (bytes s)
+-- no two records are the same
+unfoldable pub Unlike : Trade → List Trade → Type 0
+Unlike t [] = Unit
+Unlike t (u ∷ us) = (t ≡ u → ⊥) × Unlike t us
 
-unfoldable pub tradeOfB : Trade
-tradeOfB =
-    record {
-      password = text "";
-      sender = text "0017";
-      seme = text "0008";
-      prep = blankTrade .prep;
-      mast = text "0017";
-      prev = text "";
-      list = text "";
-      trad = record { date = record { 0 = 20240229 }; time = record { 0 = 93000 } };
-      sett = record { 0 = 20240313 };
-      price = record { 0 = record { number = 995; decimals = 1 } };
-      side = Side.Buyi;
-      kind = Kind.Inst;
-      buyer = record { code = text "0017"; reference = text ""; trader = text "" };
-      seller = record { code = text "0015"; reference = text ""; trader = text "" };
-      par = record { 0 = record { number = 1000000; decimals = 0 } };
-      cusip = text "01F070633";
-      pool = text "";
-      service = Service.Stip;
-      period = Period.Absent;
-      reason = text "";
-    }
+unfoldable pub AllUnlike : List Trade → Type 0
+AllUnlike [] = Unit
+AllUnlike (t ∷ ts) = Unlike t ts × AllUnlike ts
 
--- each message gets the number and line beside it; B's record, with LF and with CR LF, is the one above; and MAST 0017, 17 and
--- 15 stay as they are written, so that they are three records
+-- the records of some rows
+abbrev trades : List (List String × ℕ × ℕ) → List Trade
+trades rows = map (λ row. readOf (ended "\n" (row .0)) .trade) rows
+
+-- each message gets the number and line beside it; B's record, with LF and with CR LF, is that of values' table; MAST 0017, 17 and
+-- 15 stay as they are written, and the three records are different; a par of `0017,` is 17
 abbrev pub Answered : Type 0
 Answered =
     (map (λ row. verdictOf (ended "\n" (row .0))) cases ≡ map (λ row. refused (row .1) (row .2)) cases)
     × (map (λ ending. readOf (ended ending b)) ("\n" ∷ "\r\n" ∷ []) ≡ replicate 2 (record { number = 0; line = 0; trade = tradeOfB }))
-    × (map (λ row. readOf (ended "\n" (row .0)) .trade .mast) (take 3 cases) ≡ map text ("0017" ∷ "17" ∷ "15" ∷ []))
+    × (map (λ t. t .mast) (trades (take 3 cases)) ≡ map (λ s. textOf (bytes s)) ("0017" ∷ "17" ∷ "15" ∷ []))
+    × AllUnlike (trades (take 3 cases))
+    × (map (λ t. t .par) (trades (take 1 (drop 3 cases))) ≡ record { 0 = record { number = 17; decimals = 0 } } ∷ [])

@@ -14,10 +14,10 @@ use borrow.Author.Tests.{not-true}
 use Rattle.text.specs.Bytes.{bytes, same, before}
 use Rattle.text.proofs.Bools.{of-both}
 use Rattle.text.proofs.Laws.{and-left, and-right, same-refl}
-use Rattle.lines.specs.Lines.{inFront, cutLines, bare, linesOf, ended, joined, linesPass}
+use Rattle.lines.specs.Lines.{inFront, bare, linesOf, ended, joined, linesPass, cutBehind, withoutEnding}
 use Rattle.lines.proofs.Laws.{plain, Closed, passed}
 use Rattle.lines.proofs.Joins.{lines-joined, Whole, ended-whole, some-bytes}
-use Rattle.pieces.specs.Pieces.{cutBehind, withoutEnding, isDash, throughDash, pieceOf, piecesIn, pieces, together, cases, Answered}
+use Rattle.pieces.specs.Pieces.{isDash, throughDash, pieceOf, piecesIn, pieces, together, cases, Answered}
 
 -- ---- the pieces of a batch are all of it
 
@@ -111,31 +111,6 @@ pub pieces-together : (m : List ℕ) → together (pieces m) ≡ m
 unfolding pieces
 pieces-together m = all-together (length m) m (omega arith)
 
--- ---- its lines are those of the message that it would be
-
-before-more : (b : ℕ) (ls : List (List ℕ)) → eqb b 10 ≡ false → map (before 10) (inFront b ls) ≡ inFront b (map (before 10) ls)
-unfolding inFront before
-before-more b [] h = rw h
-before-more b (l ∷ ls) h = rw h
-
-cut-before : (m : List ℕ) → map (before 10) (cutBehind m) ≡ cutLines m
-unfolding cutBehind cutLines before
-cut-before [] = refl
-cut-before (b ∷ s) = at (cut-before s) (eqb b 10) refl
-  where
-    at : map (before 10) (cutBehind s) ≡ cutLines s → (t : Bool) → eqb b 10 ≡ t
-        → map (before 10) (cond t ((b ∷ []) ∷ cutBehind s) (inFront b (cutBehind s))) ≡ cond t ([] ∷ cutLines s) (inFront b (cutLines s))
-    at ih true h = rw (h, ih)
-    at ih false h = before-more b (cutBehind s) h ∙ ap (inFront b) ih
-
-pub lines-cut : (m : List ℕ) → map withoutEnding (cutBehind m) ≡ linesOf m
-unfolding linesOf withoutEnding
-lines-cut m = each (cutBehind m) ∙ ap (map bare) (cut-before m)
-  where
-    each : (ls : List (List ℕ)) → map withoutEnding ls ≡ map bare (map (before 10) ls)
-    each [] = refl
-    each (l ∷ ls) = ap (λ (x : List (List ℕ)). bare (before 10 l) ∷ x) (each ls)
-
 -- ---- a message is the piece at the front of what it begins
 
 -- its last line is an ended `-`, and no other is `-`
@@ -183,10 +158,10 @@ through-closed (l ∷ ls) ks (x ∷ body) e h =
     (ap (λ (y : List ℕ). l ++ y) (through-closed ls ks body (tail-eq-of-cons-eq e) (and-right (not (same (bytes "-") x)) _ h)))
 
 pub piece-message : (m rest : List ℕ) → Message m → pieceOf (m ++ rest) ≡ m
-unfolding pieceOf
+unfolding pieceOf linesOf
 piece-message m rest w =
     rw (cut-append m rest (w .end))
-    (through-closed (cutBehind m) (cutBehind rest) (w .closed .body) (lines-cut m ∙ w .closed .split) (w .closed .early) ∙ lines-together m)
+    (through-closed (cutBehind m) (cutBehind rest) (w .closed .body) (w .closed .split) (w .closed .early) ∙ lines-together m)
 
 -- what passes 1, 2 and 3 is such a message
 pub message-passed : (m : List ℕ) → linesPass m .number ≡ 0 → Message m

@@ -11,36 +11,12 @@ use lib.Dec.{eqb}
 use lib.ListN.{length, take, drop, take-append-drop, length-take, length-drop, length-append, drop-of-length-le}
 use lib.Seq.{drop-drop, drop-append-seam}
 use Rattle.text.specs.Bytes.{bytes, same, before}
-use Rattle.lines.specs.Lines.{inFront, lineAt}
+use Rattle.lines.specs.Lines.{linesOf, lineAt, cutBehind, withoutEnding}
 use Rattle.lines.specs.declared.Line.{Line}
-use Rattle.lines.proofs.Laws.{located}
-use Rattle.pieces.specs.Pieces.{cutBehind, withoutEnding, isDash, throughDash, pieceOf}
-use Rattle.pieces.proofs.Pieces.{lines-cut}
+use Rattle.lines.proofs.Laws.{located, cut-step}
+use Rattle.pieces.specs.Pieces.{isDash, throughDash, pieceOf}
 
 -- ---- a piece, from line to line
-
--- the first line with its ending, and the lines behind it
-cut-first : (b : ℕ) (s : List ℕ) → let n : ℕ = suc (length (before 10 (b ∷ s))) in cutBehind (b ∷ s) ≡ take n (b ∷ s) ∷ cutBehind (drop n (b ∷ s))
-unfolding cutBehind inFront before
-cut-first b [] = at (eqb b 10)
-  where
-    at : (t : Bool) → let n : ℕ = length (cond t [] (b ∷ [])) in cond t ((b ∷ []) ∷ []) ((b ∷ []) ∷ []) ≡ (b ∷ take n []) ∷ cutBehind (drop n [])
-    at true = refl
-    at false = refl
-cut-first b (c ∷ s) = at (cut-first c s) (eqb b 10)
-  where
-    k : ℕ
-    k = suc (length (before 10 (c ∷ s)))
-
-    at : cutBehind (c ∷ s) ≡ take k (c ∷ s) ∷ cutBehind (drop k (c ∷ s)) → (t : Bool)
-        → let n : ℕ = length (cond t [] (b ∷ before 10 (c ∷ s))) in
-        cond t ((b ∷ []) ∷ cutBehind (c ∷ s)) (inFront b (cutBehind (c ∷ s))) ≡ (b ∷ take n (c ∷ s)) ∷ cutBehind (drop n (c ∷ s))
-    at ih true = refl
-    at ih false = ap (inFront b) ih
-
-cut-some : (s : List ℕ) → 0 < length s → let n : ℕ = suc (length (before 10 s)) in cutBehind s ≡ take n s ∷ cutBehind (drop n s)
-cut-some [] h = absurd (not-suc-le-zero h)
-cut-some (b ∷ s) h = cut-first b s
 
 -- a line, with its ending, and what is left behind it
 module _ (m : List ℕ) (at : ℕ) (here : Line) (is : here ≡ lineAt m at) (h : at < length m) where
@@ -52,7 +28,7 @@ module _ (m : List ℕ) (at : ℕ) (here : Line) (is : here ≡ lineAt m at) (h 
 
   cut : cutBehind (drop at m) ≡ line ∷ cutBehind rest
   unfolding line rest
-  cut = let l = length-drop at m in cut-some (drop at m) (omega arith)
+  cut = let l = length-drop at m in cut-step (drop at m) (omega arith)
 
   next-is : here .next ≡ at + length line
   unfolding line lineAt
@@ -67,7 +43,8 @@ module _ (m : List ℕ) (at : ℕ) (here : Line) (is : here ≡ lineAt m at) (h 
       ∙ drop-append-seam line rest
 
   text-is : withoutEnding line ≡ take (here .end - at) (drop at m)
-  text-is = head-eq-of-cons-eq (sym (ap (map withoutEnding) cut) ∙ lines-cut (drop at m) ∙ located m at here is h .go-on)
+  unfolding linesOf
+  text-is = head-eq-of-cons-eq (sym (ap (map withoutEnding) cut) ∙ located m at here is h .go-on)
 
   -- a turn of the search: the piece ends with the line where it is `-`, and else goes on from the next line
   module _ (whole : ℕ) (inv : at + length (pieceOf (drop at m)) ≡ whole) (dash : Bool) (test : dash ≡ same (bytes "-") (take (here .end - at) (drop at m))) where

@@ -4,26 +4,15 @@ use Prim.Native.Nat.{ℕ, zero, suc}
 use mathlib.Core.Path.{_≡_}
 use mathlib.Core.Bool.{Bool, cond}
 use mathlib.Core.List.{List, [], _∷_, _++_, map}
-use lib.Dec.{eqb}
 use lib.ListN.{length, drop}
-use Rattle.text.specs.Bytes.{bytes, same, before}
-use Rattle.lines.specs.Lines.{inFront, bare}
-
--- ---- the lines of a batch, with their endings
-
--- a text cut behind each LF
-unfoldable pub cutBehind : List ℕ → List (List ℕ)
-cutBehind [] = []
-cutBehind (b ∷ s) = cond (eqb b 10) ((b ∷ []) ∷ cutBehind s) (inFront b (cutBehind s))
-
--- a line without its ending
-unfoldable pub withoutEnding : List ℕ → List ℕ
-withoutEnding l = bare (before 10 l)
-
-unfoldable pub isDash : List ℕ → Bool
-isDash l = same (bytes "-") (withoutEnding l)
+use Rattle.text.specs.Bytes.{bytes, same}
+use Rattle.lines.specs.Lines.{cutBehind, withoutEnding}
 
 -- ---- the piece at the front of a batch
+
+-- a line, with its ending
+unfoldable pub isDash : List ℕ → Bool
+isDash l = same (bytes "-") (withoutEnding l)
 
 -- through the first line that is `-`, or to the end where there is none
 unfoldable pub throughDash : List (List ℕ) → List ℕ

@@ -2,11 +2,12 @@
 -- numbers its fields; 28, 29, 32 and 33 are the lines of the header, and 30 and 31 are lines behind it that are fixed. Which line
 -- stands where is specs/Tree.
 use Prim.Native.Nat.{ℕ}
-use Prim.Native.String.{String}
 use mathlib.Core.List.{List, [], _∷_, _++_, map}
 use lib.ListN.{getD}
-use Rattle.forms.specs.Forms.{Slot, nothing, codes, amount, date, moment, narrative, other, valueNumber}
-use Rattle.forms.specs.Notation.{slot, oneOf}
+use Rattle.text.specs.Bytes.{bytes}
+use Rattle.forms.specs.Forms.{Slot, nothing, codes, words, amount, date, moment, narrative, other, valueNumber}
+use Rattle.forms.specs.Notation.{slot}
+use Rattle.trade.specs.Records.{sides, kinds}
 
 abbrev pub reference : Slot
 reference = slot "//" (codes 1 16)
@@ -14,21 +15,15 @@ reference = slot "//" (codes 1 16)
 abbrev pub none : Slot
 none = slot "" nothing
 
--- the words of 23G, of BUSE and of PROC
-abbrev pub functionWords : List String
-functionWords = "NEWM" ∷ "CANC" ∷ []
-
-abbrev pub sideWords : List String
-sideWords = "BUYI" ∷ "SELL" ∷ []
-
-abbrev pub kindWords : List String
-kindWords = "INST" ∷ "CANC" ∷ "MDFC" ∷ "TDDK" ∷ []
+-- the words of 23G; those of BUSE and of PROC are the record's
+abbrev pub functions : List (List ℕ)
+functions = bytes "NEWM" ∷ bytes "CANC" ∷ []
 
 unfoldable pub slots : List Slot
 slots =
     none  -- 0
     ∷ reference  -- 1
-    ∷ slot "" (oneOf functionWords)  -- 2
+    ∷ slot "" (words functions)  -- 2
     ∷ slot "//" moment  -- 3
     ∷ reference  -- 4
     ∷ reference  -- 5
@@ -36,8 +31,8 @@ slots =
     ∷ slot "//" moment  -- 7
     ∷ slot "//" date  -- 8
     ∷ slot "//PRCT/" amount  -- 9
-    ∷ slot "//" (oneOf sideWords)  -- 10
-    ∷ slot "/GSCC/" (oneOf kindWords)  -- 11
+    ∷ slot "//" (words sides)  -- 10
+    ∷ slot "/GSCC/" (words kinds)  -- 11
     ∷ slot "/GSCC/PART" (codes 4 4)  -- 12
     ∷ reference  -- 13
     ∷ slot "//GSCC/TDID" (codes 1 20)  -- 14
@@ -64,7 +59,7 @@ header = 28 ∷ 29 ∷ 32 ∷ 33 ∷ []
 
 -- the lines of a program's bytes: behind the slots, in lines that no row names, stand the words
 abbrev pub lines : List Slot
-lines = slots ++ map (λ w. slot w nothing) (functionWords ++ (sideWords ++ kindWords))
+lines = slots ++ map (λ w. record { fixed = w; form = nothing }) (functions ++ (sides ++ kinds))
 
 unfoldable pub slotOf : ℕ → Slot
 slotOf i = getD lines i (slot "" other)

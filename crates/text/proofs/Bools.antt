@@ -12,6 +12,12 @@ pub is-false : (b : Bool) → (b ≡ true → ⊥) → b ≡ false
 is-false true h = absurd (h refl)
 is-false false h = refl
 
+-- two tests that hold of the same are one
+pub alike : (a b : Bool) → (a ≡ true → b ≡ true) → (b ≡ true → a ≡ true) → a ≡ b
+alike true b h k = sym (h refl)
+alike false true h k = k refl
+alike false false h k = refl
+
 pub or-case : {P : Type 0} (a b : Bool) → (a || b) ≡ true → (a ≡ true → P) → (b ≡ true → P) → P
 or-case true b h f g = f refl
 or-case false b h f g = g h

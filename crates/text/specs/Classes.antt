@@ -3,6 +3,7 @@ use Prim.Native.Nat.{ℕ}
 use mathlib.Core.Bool.{Bool, true, _&&_, _||_}
 use mathlib.Core.List.{List, [], _∷_}
 use lib.Dec.{leb, eqb}
+use lib.ListN.{length}
 use Rattle.text.specs.declared.Class.{Class}
 use Rattle.text.specs.declared.Class.the-variants.{C, Digit, Upper, Zero}
 
@@ -30,3 +31,7 @@ inClass Zero b = eqb b 0
 unfoldable pub allIn : Class → List ℕ → Bool
 allIn k [] = true
 allIn k (b ∷ s) = inClass k b && allIn k s
+
+-- from a least to a most number of c
+unfoldable pub isCode : ℕ → ℕ → List ℕ → Bool
+isCode least most part = leb least (length part) && (leb (length part) most && allIn C part)

@@ -5,7 +5,7 @@
 ghost use mathlib.Core.Path.{_≡_};
 ghost use lib.ListN.{length};
 ghost use Rattle.text.specs.Bytes.{begins, same, before};
-ghost use Rattle.text.specs.Classes.{isBetween, inClass, allIn};
+ghost use Rattle.text.specs.Classes.{isBetween, inClass, allIn, isCode};
 ghost use Rattle.text.specs.Texts.{blank, contents, textOf, inForm};
 ghost use Rattle.text.specs.Copy.{placed, after};
 
@@ -58,6 +58,19 @@ pub fn all_in(class: Class, part: &[u8]) -> bool
         i += 1;
     }
     true
+}
+
+// From a least to a most number of c.
+pub fn is_code(part: &[u8], least: usize, most: usize) -> bool
+    ensures { λ r. ⌜ r ≡ isCode least most (now (part .entry)) ⌝ }
+{
+    if part.len() < least {
+        return false;
+    }
+    if most < part.len() {
+        return false;
+    }
+    all_in(Class::C, part)
 }
 
 // A part of a message begins with a key.

@@ -4,7 +4,7 @@ use mathlib.Core.List.{List, [], _∷_}
 use lib.ListN.{getD}
 use Rattle.text.specs.Bytes.{bytes}
 use Rattle.text.specs.Texts.{textOf, blank}
-use Rattle.amount.specs.Amounts.{amountRead}
+use Rattle.amount.specs.Amounts.{amountRead, nought}
 use Rattle.amount.specs.declared.Amount.{Amount}
 use Rattle.amount.specs.declared.AmountRead.{AmountRead}
 use Rattle.calendar.specs.Dates.{dateRead, momentRead}
@@ -38,7 +38,7 @@ sideIn v = getD (Side.Buyi ∷ Side.Sell ∷ []) (wordAt sides v) Side.Buyi
 
 abbrev pub amountOr0 : AmountRead → Amount
 amountOr0 (AmountRead.Good a) = a
-amountOr0 AmountRead.Wrong = record { number = 0; decimals = 0 }
+amountOr0 AmountRead.Wrong = nought
 
 abbrev pub dateOr0 : DateRead → Date
 dateOr0 (DateRead.Good d) = d
@@ -87,9 +87,6 @@ nobody = record { code = blank; reference = blank; trader = blank }
 
 unfoldable pub never : Moment
 never = record { date = record { 0 = 0 }; time = record { 0 = 0 } }
-
-unfoldable pub nought : Amount
-nought = record { number = 0; decimals = 0 }
 
 unfoldable pub blankTrade : Trade
 blankTrade =

@@ -15,7 +15,7 @@ use Rattle.text.specs.declared.Text.{Text}
 use Rattle.text.proofs.Laws.{and-left, and-right, and-both, in-form-facts}
 use Rattle.amount.specs.Amounts.{inForm as amountForm}
 use Rattle.amount.specs.declared.Amount.{Amount}
-use Rattle.calendar.specs.Dates.{isDate, isMoment}
+use Rattle.calendar.specs.Dates.{isDate, isMoment, momentOf}
 use Rattle.calendar.specs.declared.Moment.{Moment}
 use Rattle.calendar.proofs.Laws.{date-small, time-small}
 use Rattle.trade.specs.Records.{blankTrade}
@@ -25,7 +25,7 @@ use Rattle.trade.specs.declared.Service.{Service}
 use Rattle.trade.specs.declared.Period.{Period}
 use Rattle.trade.specs.declared.Trade.{Trade}
 use Rattle.values.specs.Writable.{prepForm, periodForm, reasonForm, tests, hold, inForm}
-use Rattle.values.proofs.Fields.{hold-at}
+use Rattle.values.proofs.Fields.{hold-at, fitted-form}
 use Rattle.judge.specs.Judging.{judgeOf}
 use Rattle.judge.specs.Cases.{cases}
 use Rattle.judge.proofs.Laws.{judge-zero}
@@ -33,7 +33,7 @@ use Rattle.judge.proofs.Cases.{answered}
 use Rattle.message.specs.Writing.{writable}
 use Rattle.message.proofs.Writes.{writable-judged}
 use Rattle.packed.specs.Packed.{kindByte, sideByte, serviceByte, periodByte, codes, texts, textBytes, momentNumber, numbers, numberBytes, inRow, packedOf}
-use Rattle.unpacked.specs.Unpacked.{named, kindFrom, sideFrom, serviceFrom, periodFrom, textFrom, numberFrom, momentFrom, textsIn, numbersIn, tradeFrom, tradeIn, unpackedOf}
+use Rattle.unpacked.specs.Unpacked.{named, kindFrom, sideFrom, serviceFrom, periodFrom, textFrom, numberFrom, textsIn, numbersIn, tradeFrom, tradeIn, unpackedOf}
 use Rattle.unpacked.specs.Back.{textFits, periodFits, momentFits, numberFits, fits, byteFits, Again}
 use Rattle.unpacked.specs.declared.Unpacked.{Unpacked}
 use Rattle.packed.proofs.Laws.{at-most-in, at-most-le, length-number}
@@ -117,8 +117,8 @@ number-fits n e = let h = leb-true n 18446744073709551615 e in number-back 8 n (
 eight-again : (p : List ℕ) → length p ≡ 8 → hold (map byteFits p) ≡ true → numberBytes 8 (numberFrom p) ≡ p
 eight-again p l e = ap (λ (w : ℕ). numberBytes w (numberFrom p)) (sym l) ∙ number-again p e
 
-moment-back : (m : Moment) → momentFits m ≡ true → momentFrom (momentNumber m) ≡ m
-unfolding momentFits momentFrom momentNumber
+moment-back : (m : Moment) → momentFits m ≡ true → momentOf (momentNumber m) ≡ m
+unfolding momentFits momentOf momentNumber
 moment-back m e =
     let n : ℕ = m .date .0 * 1000000 + m .time .0 in
     let h : n ≤ 18446744073709551615 = leb-true n 18446744073709551615 (and-left _ _ e) in
@@ -127,8 +127,8 @@ moment-back m e =
     let r : n % 1000000 ≡ m .time .0 = omega arith in
     rw (at-most-in 999999 (m .time .0) t, at-most-in 18446744073709551615 n h, d, r)
 
-pub moment-again : (n : ℕ) → n ≤ 18446744073709551615 → momentNumber (momentFrom n) ≡ n
-unfolding momentFrom momentNumber
+pub moment-again : (n : ℕ) → n ≤ 18446744073709551615 → momentNumber (momentOf n) ≡ n
+unfolding momentOf momentNumber
 moment-again n h =
     let t : n % 1000000 ≤ 999999 = omega arith in
     let s : n / 1000000 * 1000000 + n % 1000000 ≡ n = omega arith in
@@ -291,20 +291,20 @@ module _ (t : Trade) (e : inForm t ≡ true) where
   form-texts : hold (map textFits (texts t)) ≡ true
   unfolding texts tests hold
   form-texts =
-      and-both (form-fits 0 12 (t .password) (at 28))
-      (and-both (form-fits 1 8 (t .sender) (at 29))
-      (and-both (form-fits 1 16 (t .seme) (at 1))
-      (and-both (form-fits 0 16 (t .mast) (at 4))
-      (and-both (form-fits 0 16 (t .prev) (at 5))
-      (and-both (form-fits 0 16 (t .list) (at 6))
-      (and-both (form-fits 4 4 (t .buyer .code) (at 12))
-      (and-both (form-fits 0 16 (t .buyer .reference) (at 13))
-      (and-both (form-fits 0 20 (t .buyer .trader) (at 14))
-      (and-both (form-fits 4 4 (t .seller .code) (at 15))
-      (and-both (form-fits 0 16 (t .seller .reference) (at 16))
-      (and-both (form-fits 0 20 (t .seller .trader) (at 17))
-      (and-both (form-fits 9 9 (t .cusip) (at 19))
-      (and-both (form-fits 0 9 (t .pool) (at 20))
+      and-both (form-fits 0 20 (t .password) (fitted-form 28 _ (at 28)))
+      (and-both (form-fits 0 20 (t .sender) (fitted-form 29 _ (at 29)))
+      (and-both (form-fits 0 20 (t .seme) (fitted-form 1 _ (at 1)))
+      (and-both (form-fits 0 20 (t .mast) (fitted-form 4 _ (at 4)))
+      (and-both (form-fits 0 20 (t .prev) (fitted-form 5 _ (at 5)))
+      (and-both (form-fits 0 20 (t .list) (fitted-form 6 _ (at 6)))
+      (and-both (form-fits 0 20 (t .buyer .code) (fitted-form 12 _ (at 12)))
+      (and-both (form-fits 0 20 (t .buyer .reference) (fitted-form 13 _ (at 13)))
+      (and-both (form-fits 0 20 (t .buyer .trader) (fitted-form 14 _ (at 14)))
+      (and-both (form-fits 0 20 (t .seller .code) (fitted-form 15 _ (at 15)))
+      (and-both (form-fits 0 20 (t .seller .reference) (fitted-form 16 _ (at 16)))
+      (and-both (form-fits 0 20 (t .seller .trader) (fitted-form 17 _ (at 17)))
+      (and-both (form-fits 0 20 (t .cusip) (fitted-form 19 _ (at 19)))
+      (and-both (form-fits 0 20 (t .pool) (fitted-form 20 _ (at 20)))
       (and-both (reason-fits (t .reason) (and-right (periodForm (t .period)) _ (at 21))) refl))))))))))))))
 
   form-numbers : hold (map numberFits (numbers t)) ≡ true

@@ -12,20 +12,20 @@ use Rattle.text.specs.Texts.{inForm as textForm}
 use Rattle.text.specs.declared.Text.{Text}
 use Rattle.text.proofs.Bools.{or-case}
 use Rattle.text.proofs.Laws.{and-left, and-right, and-both, in-form-facts}
-use Rattle.calendar.specs.Dates.{isDate, isTime, isMoment}
+use Rattle.calendar.specs.Dates.{isDate, isTime, isMoment, momentOf}
 use Rattle.calendar.specs.declared.Moment.{Moment}
 use Rattle.calendar.proofs.Laws.{date-small, time-small}
 use Rattle.trade.specs.declared.Party.{Party}
 use Rattle.trade.specs.declared.Period.{Period}
 use Rattle.trade.specs.declared.Trade.{Trade}
 use Rattle.values.specs.Writable.{prepForm, periodForm, reasonForm, tests, hold, inForm}
-use Rattle.values.proofs.Fields.{hold-at}
+use Rattle.values.proofs.Fields.{hold-at, fitted-form}
 use Rattle.judge.proofs.Laws.{judge-zero}
 use Rattle.message.specs.Writing.{writable}
 use Rattle.message.proofs.Writes.{writable-judged}
 use Rattle.packed.specs.Packed.{atMost, periodByte, codes, texts, textBytes, momentNumber, numbers, packedOf}
 use Rattle.packed.proofs.Laws.{at-most-in, at-most-out, at-most-le}
-use Rattle.unpacked.specs.Unpacked.{momentFrom, unpackedOf}
+use Rattle.unpacked.specs.Unpacked.{unpackedOf}
 use Rattle.unpacked.specs.Back.{textFits, periodFits, momentFits, fits, textHeld, held, Itself}
 use Rattle.unpacked.specs.declared.Unpacked.{Unpacked}
 use Rattle.unpacked.proofs.Back.{moment-again, unpacks}
@@ -40,7 +40,7 @@ periodOf Period.Absent = Period.Absent
 periodOf (Period.Days n) = Period.Days (atMost 254 n)
 
 momentIn : Moment → Moment
-momentIn m = momentFrom (momentNumber m)
+momentIn m = momentOf (momentNumber m)
 
 partyIn : Party → Party
 partyIn p = record { code = textIn (p .code); reference = textIn (p .reference); trader = textIn (p .trader) }
@@ -128,7 +128,7 @@ period-room Period.Absent = refl
 period-room (Period.Days n) = le-leb (atMost 254 n) 254 (at-most-le 254 n)
 
 moment-room : (m : Moment) → momentFits (momentIn m) ≡ true
-unfolding momentFits momentIn momentFrom
+unfolding momentFits momentIn momentOf
 moment-room m =
     let n : ℕ = momentNumber m in
     let h : n ≤ 18446744073709551615 = moment-most m in
@@ -184,7 +184,7 @@ module _ (m : Moment) where
 
   -- a date that is below a hundred millions was not cut down, nor was a time below a million
   moment-whole : (d t : ℕ) → momentIn m .date .0 ≡ d → momentIn m .time .0 ≡ t → d < 100000000 → t < 999999 → momentIn m ≡ m
-  unfolding momentIn momentFrom momentNumber time all
+  unfolding momentIn momentOf momentNumber time all
   moment-whole d t a b h k = go (leb all 18446744073709551615) refl
     where
       n : ℕ
@@ -239,22 +239,22 @@ module _ (t : Trade) (form : inForm (capped t) ≡ true) where
   unfolding capped partyIn tests
   capped-itself =
       rw (
-        text-itself 0 12 (t .password) (at 28),
-        text-itself 1 8 (t .sender) (at 29),
-        text-itself 1 16 (t .seme) (at 1),
+        text-itself 0 20 (t .password) (fitted-form 28 _ (at 28)),
+        text-itself 0 20 (t .sender) (fitted-form 29 _ (at 29)),
+        text-itself 0 20 (t .seme) (fitted-form 1 _ (at 1)),
         prep-itself (t .prep) (at 3),
-        text-itself 0 16 (t .mast) (at 4),
-        text-itself 0 16 (t .prev) (at 5),
-        text-itself 0 16 (t .list) (at 6),
+        text-itself 0 20 (t .mast) (fitted-form 4 _ (at 4)),
+        text-itself 0 20 (t .prev) (fitted-form 5 _ (at 5)),
+        text-itself 0 20 (t .list) (fitted-form 6 _ (at 6)),
         moment-itself (t .trad) (at 7),
-        text-itself 4 4 (t .buyer .code) (at 12),
-        text-itself 0 16 (t .buyer .reference) (at 13),
-        text-itself 0 20 (t .buyer .trader) (at 14),
-        text-itself 4 4 (t .seller .code) (at 15),
-        text-itself 0 16 (t .seller .reference) (at 16),
-        text-itself 0 20 (t .seller .trader) (at 17),
-        text-itself 9 9 (t .cusip) (at 19),
-        text-itself 0 9 (t .pool) (at 20),
+        text-itself 0 20 (t .buyer .code) (fitted-form 12 _ (at 12)),
+        text-itself 0 20 (t .buyer .reference) (fitted-form 13 _ (at 13)),
+        text-itself 0 20 (t .buyer .trader) (fitted-form 14 _ (at 14)),
+        text-itself 0 20 (t .seller .code) (fitted-form 15 _ (at 15)),
+        text-itself 0 20 (t .seller .reference) (fitted-form 16 _ (at 16)),
+        text-itself 0 20 (t .seller .trader) (fitted-form 17 _ (at 17)),
+        text-itself 0 20 (t .cusip) (fitted-form 19 _ (at 19)),
+        text-itself 0 20 (t .pool) (fitted-form 20 _ (at 20)),
         period-itself (t .period) (and-left _ _ (at 21)),
         reason-itself (t .reason) (and-right (periodForm (periodOf (t .period))) _ (at 21)),
       )

@@ -2,7 +2,7 @@
 -- Assumes nothing.
 use mathlib.Core.Path.{refl, sym, ap, _∙_}
 use native.Mathlib.Omega.{arith}
-use Rattle.trade.specs.Records.{nobody, never, nought, blankTrade}
+use Rattle.trade.specs.Records.{nobody, never, blankTrade}
 use Rattle.values.specs.Writable.{hold}
 use Rattle.message.proofs.Writes.{judged}
 use Rattle.packed.specs.Packed.{atMost, texts, momentNumber, numbers}
@@ -13,7 +13,7 @@ use Rattle.unpacked.proofs.Back.{unpacks, writable-fits, packs-all, bad
 use Rattle.unpacked.proofs.Itself.{itself}
 
 pub lossless : Lossless
-unfolding fits textFits periodFits momentFits numberFits texts numbers momentNumber atMost hold nobody never nought blankTrade
+unfolding fits textFits periodFits momentFits numberFits texts numbers momentNumber atMost hold nobody never blankTrade
 lossless =
     record {
       back = unpacks;

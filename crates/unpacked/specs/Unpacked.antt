@@ -1,12 +1,12 @@
 -- The record of 375 bytes, by the places of packed's specs/Packed; no record, with the blank one beside it, where a code byte names no word.
-use Prim.Native.Nat.{ℕ, _+_, _*_, _/_, _%_}
+use Prim.Native.Nat.{ℕ, _+_, _*_}
 use mathlib.Core.Bool.{Bool, true, false, _&&_, cond}
 use mathlib.Core.List.{List, [], _∷_, map}
 use lib.Dec.{leb, eqb}
 use lib.ListN.{drop, getD}
 use Rattle.text.specs.Bytes.{parts}
 use Rattle.text.specs.declared.Text.{Text}
-use Rattle.calendar.specs.declared.Moment.{Moment}
+use Rattle.calendar.specs.Dates.{momentOf}
 use Rattle.trade.specs.Records.{blankTrade}
 use Rattle.trade.specs.declared.Kind.{Kind}
 use Rattle.trade.specs.declared.Side.{Side}
@@ -42,9 +42,6 @@ unfoldable pub numberFrom : List ℕ → ℕ
 numberFrom [] = 0
 numberFrom (b ∷ s) = b + 256 * numberFrom s
 
-unfoldable pub momentFrom : ℕ → Moment
-momentFrom n = record { date = record { 0 = n / 1000000 }; time = record { 0 = n % 1000000 } }
-
 unfoldable pub textsIn : List ℕ → List Text
 textsIn s = map textFrom (parts 21 15 (drop 4 s))
 
@@ -63,11 +60,11 @@ tradeFrom kind side service period texts numbers =
       password = getD texts 0 none;
       sender = getD texts 1 none;
       seme = getD texts 2 none;
-      prep = momentFrom (getD numbers 0 0);
+      prep = momentOf (getD numbers 0 0);
       mast = getD texts 3 none;
       prev = getD texts 4 none;
       list = getD texts 5 none;
-      trad = momentFrom (getD numbers 1 0);
+      trad = momentOf (getD numbers 1 0);
       sett = record { 0 = getD numbers 2 0 };
       price = record { 0 = record { number = getD numbers 3 0; decimals = getD numbers 4 0 } };
       side = side;

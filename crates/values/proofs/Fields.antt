@@ -3,18 +3,20 @@
 -- Assumes nothing.
 use Prim.Native.Nat.{ℕ, zero, suc, _+_, _≤_, _<_}
 use mathlib.Core.Path.{_≡_, refl, sym, ap, _∙_}
-use mathlib.Core.Bool.{Bool, true, false, _&&_, _||_, cond, or-true, or-false}
+use mathlib.Core.Bool.{Bool, true, false, _&&_, _||_, cond, or-true, or-false, true≢false}
 use mathlib.Core.List.{List, [], _∷_}
 use mathlib.Core.Logic.{_⊎_, inl, inr}
 use native.Mathlib.Nat.{add-zero, zero-add, add-suc, suc-add, not-suc-le-zero, le-of-suc-le-suc}
 use native.Mathlib.Omega.{arith}
 use lib.Dec.{leb, eqb}
 use lib.ListN.{length, getD}
-use borrow.Author.Tests.{le-leb, ltb-true, eqb-true, eqb-false}
-use Rattle.text.specs.Classes.{allIn}
+use borrow.Author.Tests.{le-leb, leb-true, ltb-true, eqb-true, eqb-false, eq-eqb}
+use Rattle.text.specs.Classes.{allIn, isCode}
 use Rattle.text.specs.Texts.{contents, textOf, inForm as textForm}
 use Rattle.text.specs.declared.Text.{Text}
-use Rattle.text.proofs.Laws.{and-left, and-right, and-both, contents-of, in-form-of, in-form-facts, length-contents}
+use Rattle.text.specs.declared.Class.the-variants.{C}
+use Rattle.text.proofs.Bools.{alike, or-case, or-one, or-two}
+use Rattle.text.proofs.Laws.{and-left, and-right, and-both, text-is, contents-of, in-form-of, in-form-facts, length-contents}
 use Rattle.digits.specs.Numerals.{fixedOf}
 use Rattle.amount.specs.Amounts.{isAmount, tidy, amountRead, amountNumber, amountText, valueOf as meaning, inForm as amountForm}
 use Rattle.amount.specs.declared.AmountRead.{AmountRead}
@@ -24,10 +26,13 @@ use Rattle.calendar.specs.declared.Moment.{Moment}
 use Rattle.calendar.specs.declared.DateRead.{DateRead}
 use Rattle.calendar.specs.declared.MomentRead.{MomentRead}
 use Rattle.calendar.proofs.Laws.{date-back, moment-back, moment-round}
-use Rattle.forms.specs.Forms.{isCode, wordAt, isWord}
-use Rattle.forms.proofs.Laws.{code-most, word-at}
+use Rattle.forms.specs.Forms.{codes, wordAt, isWord, unless, formNumber}
+use Rattle.forms.proofs.Laws.{code-most, unless-good, word-at}
+use Rattle.format.specs.Format.{mayLack}
 use Rattle.trade.specs.Records.{amountOr0, dateOr0, momentOr0}
-use Rattle.values.specs.Writable.{prepForm, hold}
+use Rattle.table.specs.Table.{slotOf}
+use Rattle.table.specs.Tree.{tree}
+use Rattle.values.specs.Writable.{prepForm, fitted, hold}
 
 -- ---- statements by their numbers
 
@@ -77,18 +82,92 @@ text-code least most t e =
     let f = in-form-facts least most t e in
     rw (length-contents least most t e, le-leb _ _ (f .2), le-leb _ _ (f .3), f .4)
 
--- of a value that may be absent: none at all, or at least one c
-pub code-any : (least most : ℕ) (v : List ℕ) → isCode least most v ≡ true → isCode 0 most v ≡ true
-unfolding isCode
-code-any least most v e = and-both (le-leb 0 (length v) (omega arith)) (and-right (leb least (length v)) _ e)
+-- what a text in form is by width, it is by every width that has room for its length
+narrowed : (least most low high : ℕ) (x : Text) → textForm low high x ≡ true → least ≤ x .len → x .len ≤ most → textForm least most x ≡ true
+unfolding textForm
+narrowed least most low high x e l m =
+    let f = in-form-facts low high x e in
+    and-both (eq-eqb _ _ (f .0))
+    (and-both (le-leb _ _ (f .1)) (and-both (le-leb _ _ l) (and-both (le-leb _ _ m) (and-both {a = allIn C (contents x)} (f .4) (f .5)))))
 
-pub code-some : (most : ℕ) (v : List ℕ) → isCode 0 most v ≡ true → eqb (length v) 0 ≡ false → isCode 1 most v ≡ true
-unfolding isCode
-code-some most v e n = let z = eqb-false (length v) 0 n in and-both (le-leb 1 (length v) (omega arith)) (and-right (leb 0 (length v)) _ e)
+pub widest : (least most : ℕ) (x : Text) → textForm least most x ≡ true → textForm 0 20 x ≡ true
+widest least most x e = narrowed 0 20 least most x e (omega arith) (in-form-facts least most x e .1)
 
-pub no-code : (most : ℕ) → isCode 0 most [] ≡ true
-unfolding isCode allIn
-no-code most = rw (le-leb 0 most (omega arith))
+pub no-contents : (x : Text) → x .len ≡ 0 → contents x ≡ []
+unfolding contents
+no-contents x e = rw e
+
+-- ---- a text by its slot
+
+pub fitted-form : (slot : ℕ) (x : Text) → fitted slot x ≡ true → textForm 0 20 x ≡ true
+unfolding fitted
+fitted-form slot x e = and-left _ _ e
+
+-- where the slot takes so many c this is the width of the text, or of an optional one that it is absent or of that width
+module _ (slot least most : ℕ) (x : Text) (is : slotOf slot .form ≡ codes least most) where
+  coded : isCode least most (contents x) ≡ true → formNumber (slotOf slot .form) (contents x) ≡ 0
+  unfolding formNumber unless
+  coded e = rw (is, e)
+
+  uncoded : textForm 0 20 x ≡ true → formNumber (slotOf slot .form) (contents x) ≡ 0 → textForm least most x ≡ true
+  unfolding formNumber isCode
+  uncoded h z =
+      let e = unless-good (isCode least most (contents x)) (rw is at z) in
+      let n = length-contents 0 20 x h in
+      let l = leb-true least (length (contents x)) (and-left _ _ e) in
+      let m = leb-true (length (contents x)) most (and-left _ _ (and-right (leb least (length (contents x))) _ e)) in
+      narrowed least most 0 20 x h (omega arith) (omega arith)
+
+  pub fitted-must : mayLack tree slot ≡ false → fitted slot x ≡ textForm least most x
+  unfolding fitted
+  fitted-must o = alike _ _ there back
+    where
+      there : fitted slot x ≡ true → textForm least most x ≡ true
+      there e =
+          let h = and-left (textForm 0 20 x) _ e in
+          or-case (mayLack tree slot && eqb (x .len) 0) _ (and-right (textForm 0 20 x) _ e)
+          (λ a. absurd (true≢false (sym (and-left (mayLack tree slot) _ a) ∙ o))) (λ z. uncoded h (eqb-true _ _ z))
+
+      back : textForm least most x ≡ true → fitted slot x ≡ true
+      back e =
+          let z = eq-eqb (formNumber (slotOf slot .form) (contents x)) 0 (coded (text-code least most x e)) in
+          and-both (widest least most x e) (or-two (mayLack tree slot && eqb (x .len) 0) _ z)
+
+pub fitted-may : (slot most : ℕ) (x : Text) → slotOf slot .form ≡ codes 1 most → mayLack tree slot ≡ true → fitted slot x ≡ textForm 0 most x
+unfolding fitted
+fitted-may slot most x is o = alike _ _ there back
+  where
+    there : fitted slot x ≡ true → textForm 0 most x ≡ true
+    there e =
+        let h = and-left (textForm 0 20 x) _ e in
+        or-case (mayLack tree slot && eqb (x .len) 0) _ (and-right (textForm 0 20 x) _ e)
+        (λ a. let z = eqb-true (x .len) 0 (and-right (mayLack tree slot) _ a) in narrowed 0 most 0 20 x h (omega arith) (omega arith))
+        (λ z. let k = uncoded slot 1 most x is h (eqb-true _ _ z) in narrowed 0 most 1 most x k (omega arith) (in-form-facts 1 most x k .3))
+
+    back : textForm 0 most x ≡ true → fitted slot x ≡ true
+    back e = and-both (widest 0 most x e) (go (eqb (x .len) 0) refl)
+      where
+        go : (b : Bool) → eqb (x .len) 0 ≡ b → ((mayLack tree slot && b) || eqb (formNumber (slotOf slot .form) (contents x)) 0) ≡ true
+        go true z = rw o
+        go false z =
+            let n = eqb-false (x .len) 0 z in
+            let k = narrowed 1 most 0 most x e (omega arith) (in-form-facts 0 most x e .3) in
+            or-two (mayLack tree slot && false) _ (eq-eqb (formNumber (slotOf slot .form) (contents x)) 0 (coded slot 1 most x is (text-code 1 most x k)))
+
+-- a value that the slot takes is held as a text by its slot, and that text is written as the value
+pub fitted-text : (slot least most : ℕ) (v : List ℕ) → slotOf slot .form ≡ codes least most → leb most 20 ≡ true
+    → ((v ≡ []) × (mayLack tree slot ≡ true)) ⊎ (formNumber (slotOf slot .form) v ≡ 0)
+    → (fitted slot (textOf v) ≡ true) × (contents (textOf v) ≡ v)
+unfolding fitted formNumber isCode allIn
+fitted-text slot least most v is l (inl n) =
+    let short : length v ≤ 20 = rw (n .0) (omega arith) in
+    let c = contents-of v short in
+    let z : textOf v .len ≡ 0 = ap (λ (x : Text). x .len) (text-is v short) ∙ ap length (n .0) in
+    (and-both (in-form-of v short 0 20 ∙ ap (isCode 0 20) (n .0)) (or-one _ _ (and-both (n .1) (eq-eqb _ _ z))), c)
+fitted-text slot least most v is l (inr z) =
+    let e = unless-good (isCode least most v) (rw is at z) in
+    let t = code-text least most v (leb-true most 20 l) e in
+    (and-both (widest least most (textOf v) (t .0)) (or-two (mayLack tree slot && eqb (textOf v .len) 0) _ (eq-eqb _ _ (ap (formNumber (slotOf slot .form)) (t .1) ∙ z))), t .1)
 
 -- ---- code words
 

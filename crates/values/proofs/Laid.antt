@@ -4,15 +4,15 @@ use Prim.Native.Nat.{ℕ}
 use mathlib.Core.Path.{refl}
 use native.Mathlib.Omega.{arith}
 use Rattle.text.specs.Bytes.{bytes, begins, same, before}
-use Rattle.text.specs.Classes.{isBetween, isDigit, isUpper, isC, inClass, allIn}
+use Rattle.text.specs.Classes.{isBetween, isDigit, isUpper, isC, inClass, allIn, isCode}
 use Rattle.text.proofs.Printed.{printed}
 use Rattle.digits.specs.Numerals as Numerals
 use Rattle.amount.specs.Amounts.{amountRead, isAmount, whole}
 use Rattle.calendar.specs.Dates.{dateRead, dateFrom, momentRead, momentFrom}
-use Rattle.forms.specs.Forms.{isCode, isWord, wordAt, unless, formNumber, valueNumber}
+use Rattle.forms.specs.Forms.{isWord, wordAt, unless, formNumber, valueNumber}
 use Rattle.forms.specs.Narrative.{isNarrative}
 use Rattle.forms.proofs.Printing.{allPrinted, printedForm}
-use Rattle.blocks.specs.Blocks.{isTagged, nameOf, isName}
+use Rattle.blocks.specs.Blocks.{isTagged, nameOf}
 use Rattle.sheets.specs.Slots.{fieldSlots, ownSlots, memberSlots, slotsOf, firstSlots, mustSlots}
 use Rattle.sheets.specs.Sheets.{has}
 use Rattle.sheets.specs.Plain.{groupsOf, keysOf}
@@ -29,7 +29,7 @@ use Rattle.table.proofs.Trees.{good, is-apart, ends-at, is-once, is-sole, is-te
 use Rattle.values.specs.Mt515.{links, parties, fronts, mt515}
 
 pub layout : Layout mt515
-unfolding bytes begins same before isBetween isDigit isUpper isC inClass allIn printed Numerals.fixedOf amountRead isAmount whole dateRead dateFrom momentRead momentFrom isCode isWord wordAt unless formNumber valueNumber isNarrative allPrinted printedForm isTagged nameOf isName fieldSlots ownSlots memberSlots slotsOf firstSlots mustSlots has groupsOf keysOf clash disjoint distinct withFields withMembers withTree lastLine everySlot optional every isCodes noCode foreign isAmountForm apartText onceFront untouched tidyRow tidyFields tidyMembers tidyTree fieldKey opensAt closer fieldKeys memberKeys nestable fieldTexts memberTexts texts printable edges strangers slots header slotOf general pool details tree links parties fronts
+unfolding bytes begins same before isBetween isDigit isUpper isC inClass allIn printed Numerals.fixedOf amountRead isAmount whole dateRead dateFrom momentRead momentFrom isCode isWord wordAt unless formNumber valueNumber isNarrative allPrinted printedForm isTagged nameOf fieldSlots ownSlots memberSlots slotsOf firstSlots mustSlots has groupsOf keysOf clash disjoint distinct withFields withMembers withTree lastLine everySlot optional every isCodes noCode foreign isAmountForm apartText onceFront untouched tidyRow tidyFields tidyMembers tidyTree fieldKey opensAt closer fieldKeys memberKeys nestable fieldTexts memberTexts texts printable edges strangers slots header slotOf general pool details tree links parties fronts
 layout =
     record {
       good = good;

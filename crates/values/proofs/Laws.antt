@@ -14,12 +14,13 @@ use borrow.Author.Tests.{leb-true, ltb-true, eqb-true}
 use Rattle.text.specs.Bytes.{bytes, same}
 use Rattle.text.specs.Texts.{contents, textOf, inForm as textForm}
 use Rattle.text.specs.declared.Text.{Text}
+use Rattle.text.proofs.Bools.{or-case}
 use Rattle.text.proofs.Laws.{and-left, and-right, and-both, same-eq, text-back}
 use Rattle.amount.specs.Amounts.{amountRead, amountNumber, amountText, inForm as amountForm}
 use Rattle.amount.proofs.Laws.{amount-round}
 use Rattle.calendar.specs.Dates.{dateNumber, dateText, momentRead, momentNumber, momentText}
 use Rattle.calendar.proofs.Laws.{date-round, moment-round}
-use Rattle.forms.specs.Forms.{amount, isCode, wordAt, isWord, unless, formNumber}
+use Rattle.forms.specs.Forms.{codes, amount, wordAt, isWord, unless, formNumber}
 use Rattle.forms.specs.Narrative.{isNarrative}
 use Rattle.forms.proofs.Laws.{unless-good}
 use Rattle.forms.proofs.Narratives.{nothing}
@@ -27,7 +28,7 @@ use Rattle.sheets.specs.Slots.{fieldSlots, ownSlots, memberSlots, slotsOf, firs
 use Rattle.sheets.specs.Sheets.{has}
 use Rattle.sheets.specs.Filled.{some, anyIn, anyField}
 use Rattle.sheets.proofs.Checks.{complete, allMembers, wholeMembers, solid, solidMembers, solidFields}
-use Rattle.format.specs.Format.{everySlot, optional}
+use Rattle.format.specs.Format.{mayLack, everySlot, optional}
 use Rattle.format.specs.Reading.{rulesOf}
 use Rattle.format.specs.Writing.{behindIn}
 use Rattle.format.proofs.Tests.{every, every-at, number-form, tidied, amount-some}
@@ -41,9 +42,9 @@ use Rattle.kinds.proofs.Laws.{kinds-passes}
 use Rattle.table.specs.Table.{slots, header, slotOf}
 use Rattle.table.specs.Tree.{general, pool, details, tree}
 use Rattle.values.specs.Values.{kindWord, sideWord, narrative, values, valueOf}
-use Rattle.values.specs.Writable.{prepForm, periodForm, reasonForm, tests, inForm}
+use Rattle.values.specs.Writable.{prepForm, periodForm, reasonForm, fitted, tests, inForm}
 use Rattle.values.specs.Mt515.{mt515}
-use Rattle.values.proofs.Fields.{Each, _⨾_, each-at, hold-at, hold-all, code-text, text-code, code-any, code-some, no-code, word-back, amount-held, date-held, moment-held, prep-back, prep-number, prep-held}
+use Rattle.values.proofs.Fields.{Each, _⨾_, each-at, hold-at, hold-all, no-contents, fitted-form, fitted-text, word-back, amount-held, date-held, moment-held, prep-back, prep-number, prep-held}
 use Rattle.values.proofs.Narratives.{narrative-short, told-parts, told-back, told-form}
 
 -- ---- one slot
@@ -55,18 +56,12 @@ good-unless b e = rw e
 filled : (slot : ℕ) (v : List ℕ) → formNumber (slotOf slot .form) v ≡ 0 → Filled mt515 slot v
 filled slot v h = inr (number-form (slotOf slot) v ∙ h)
 
--- a text that must be there, and one that may be
-must : (slot least most : ℕ) (x : Text) → textForm least most x ≡ true
-    → formNumber (slotOf slot .form) (contents x) ≡ unless (isCode least most (contents x)) → Filled mt515 slot (contents x)
-must slot least most x h is = filled slot (contents x) (is ∙ good-unless _ (text-code least most x h))
-
-may : (slot most : ℕ) (x : Text) → optional mt515 slot ≡ true → textForm 0 most x ≡ true
-    → formNumber (slotOf slot .form) (contents x) ≡ unless (isCode 1 most (contents x)) → Filled mt515 slot (contents x)
-may slot most x o h is = go (eqb (length (contents x)) 0) refl
-  where
-    go : (b : Bool) → eqb (length (contents x)) 0 ≡ b → Filled mt515 slot (contents x)
-    go true n = inl (nothing (contents x) (eqb-true _ _ n), o)
-    go false n = filled slot (contents x) (is ∙ good-unless (isCode 1 most (contents x)) (code-some most (contents x) (text-code 0 most x h) n))
+text : (slot : ℕ) (x : Text) → fitted slot x ≡ true → Filled mt515 slot (contents x)
+unfolding fitted optional
+text slot x e =
+    or-case (mayLack tree slot && eqb (x .len) 0) _ (and-right (textForm 0 20 x) _ e)
+    (λ a. inl (no-contents x (eqb-true _ _ (and-right (mayLack tree slot) _ a)), and-left _ _ a))
+    (λ z. filled slot (contents x) (eqb-true _ _ z))
 
 -- the slots of a message are numbered below 34, and the numbers that name none are passed by
 below : (slot : ℕ) → has (everySlot mt515) slot ≡ true → slot < 34
@@ -152,27 +147,27 @@ module _ (t : Trade) (form : inForm t ≡ true) where
   record-back =
       let told = told-parts (t .service) (t .period) (t .reason) (narrated .0) (narrated .1) in
       rw (
-        text-back 0 12 (t .password) (test 28),
-        text-back 1 8 (t .sender) (test 29),
-        text-back 1 16 (t .seme) (test 1),
+        text-back 0 20 (t .password) (fitted-form 28 _ (test 28)),
+        text-back 0 20 (t .sender) (fitted-form 29 _ (test 29)),
+        text-back 0 20 (t .seme) (fitted-form 1 _ (test 1)),
         prep-back (t .prep) (test 3),
-        text-back 0 16 (t .mast) (test 4),
-        text-back 0 16 (t .prev) (test 5),
-        text-back 0 16 (t .list) (test 6),
+        text-back 0 20 (t .mast) (fitted-form 4 _ (test 4)),
+        text-back 0 20 (t .prev) (fitted-form 5 _ (test 5)),
+        text-back 0 20 (t .list) (fitted-form 6 _ (test 6)),
         moment-round (t .trad) (test 7),
         date-round (t .sett) (test 8),
         amount-round (t .price .0) (test 9),
         side-back (t .side),
         kind-back (t .kind),
-        text-back 4 4 (t .buyer .code) (test 12),
-        text-back 0 16 (t .buyer .reference) (test 13),
-        text-back 0 20 (t .buyer .trader) (test 14),
-        text-back 4 4 (t .seller .code) (test 15),
-        text-back 0 16 (t .seller .reference) (test 16),
-        text-back 0 20 (t .seller .trader) (test 17),
+        text-back 0 20 (t .buyer .code) (fitted-form 12 _ (test 12)),
+        text-back 0 20 (t .buyer .reference) (fitted-form 13 _ (test 13)),
+        text-back 0 20 (t .buyer .trader) (fitted-form 14 _ (test 14)),
+        text-back 0 20 (t .seller .code) (fitted-form 15 _ (test 15)),
+        text-back 0 20 (t .seller .reference) (fitted-form 16 _ (test 16)),
+        text-back 0 20 (t .seller .trader) (fitted-form 17 _ (test 17)),
         amount-round (t .par .0) (test 18),
-        text-back 9 9 (t .cusip) (test 19),
-        text-back 0 9 (t .pool) (test 20),
+        text-back 0 20 (t .cusip) (fitted-form 19 _ (test 19)),
+        text-back 0 20 (t .pool) (fitted-form 20 _ (test 20)),
         told .service-of,
         told .period-of,
         told .reason-of,
@@ -201,26 +196,26 @@ module _ (t : Trade) (form : inForm t ≡ true) where
   unfolding everySlot optional slotsOf memberSlots ownSlots fieldSlots mustSlots firstSlots header tree general pool details has valueOf values slotOf slots formNumber tests
   each-filled =
       none 0 refl
-      ⨾ (λ i. must 1 1 16 (t .seme) (test 1) refl)
+      ⨾ (λ i. text 1 (t .seme) (test 1))
       ⨾ (λ i. filled 2 (functionOf (t .kind)) (good-unless _ (function-word (t .kind))))
       ⨾ (λ i. prep)
-      ⨾ (λ i. may 4 16 (t .mast) refl (test 4) refl)
-      ⨾ (λ i. may 5 16 (t .prev) refl (test 5) refl)
-      ⨾ (λ i. may 6 16 (t .list) refl (test 6) refl)
+      ⨾ (λ i. text 4 (t .mast) (test 4))
+      ⨾ (λ i. text 5 (t .prev) (test 5))
+      ⨾ (λ i. text 6 (t .list) (test 6))
       ⨾ (λ i. filled 7 (momentText (t .trad)) (ap momentNumber (moment-round (t .trad) (test 7))))
       ⨾ (λ i. filled 8 (dateText (t .sett)) (ap dateNumber (date-round (t .sett) (test 8))))
       ⨾ (λ i. filled 9 (amountText (t .price .0)) (ap amountNumber (amount-round (t .price .0) (test 9))))
       ⨾ (λ i. filled 10 (sideWord (t .side)) (good-unless _ (side-word (t .side))))
       ⨾ (λ i. filled 11 (kindWord (t .kind)) (good-unless _ (kind-word (t .kind))))
-      ⨾ (λ i. must 12 4 4 (t .buyer .code) (test 12) refl)
-      ⨾ (λ i. may 13 16 (t .buyer .reference) refl (test 13) refl)
-      ⨾ (λ i. may 14 20 (t .buyer .trader) refl (test 14) refl)
-      ⨾ (λ i. must 15 4 4 (t .seller .code) (test 15) refl)
-      ⨾ (λ i. may 16 16 (t .seller .reference) refl (test 16) refl)
-      ⨾ (λ i. may 17 20 (t .seller .trader) refl (test 17) refl)
+      ⨾ (λ i. text 12 (t .buyer .code) (test 12))
+      ⨾ (λ i. text 13 (t .buyer .reference) (test 13))
+      ⨾ (λ i. text 14 (t .buyer .trader) (test 14))
+      ⨾ (λ i. text 15 (t .seller .code) (test 15))
+      ⨾ (λ i. text 16 (t .seller .reference) (test 16))
+      ⨾ (λ i. text 17 (t .seller .trader) (test 17))
       ⨾ (λ i. filled 18 (amountText (t .par .0)) (ap amountNumber (amount-round (t .par .0) (test 18))))
-      ⨾ (λ i. must 19 9 9 (t .cusip) (test 19) refl)
-      ⨾ (λ i. may 20 9 (t .pool) refl (test 20) refl)
+      ⨾ (λ i. text 19 (t .cusip) (test 19))
+      ⨾ (λ i. text 20 (t .pool) (test 20))
       ⨾ (λ i. told)
       ⨾ none 22 refl
       ⨾ none 23 refl
@@ -228,8 +223,8 @@ module _ (t : Trade) (form : inForm t ≡ true) where
       ⨾ none 25 refl
       ⨾ none 26 refl
       ⨾ none 27 refl
-      ⨾ (λ i. must 28 0 12 (t .password) (test 28) refl)
-      ⨾ (λ i. must 29 1 8 (t .sender) (test 29) refl)
+      ⨾ (λ i. text 28 (t .password) (test 28))
+      ⨾ (λ i. text 29 (t .sender) (test 29))
       ⨾ (λ i. filled 30 [] (good-unless true refl))
       ⨾ (λ i. filled 31 [] (good-unless true refl))
       ⨾ (λ i. filled 32 [] (good-unless true refl))
@@ -277,17 +272,10 @@ module _ (value : ℕ → List ℕ) (h : Held mt515 value) (rules : rulesOf mt51
   no-slot : (slot : ℕ) → getD (tests (tradeOf value)) slot true ≡ true → has (everySlot mt515) slot ≡ false → Kept slot
   no-slot slot a b = (a, none slot b)
 
-  must-text : (slot least most : ℕ) → leb most 20 ≡ true → unless (isCode least most (value slot)) ≡ 0
-      → (textForm least most (textOf (value slot)) ≡ true) × (contents (textOf (value slot)) ≡ value slot)
-  must-text slot least most l e = code-text least most (value slot) (leb-true most 20 l) (unless-good _ e)
-
-  may-text : (slot most : ℕ) → leb most 20 ≡ true → ((value slot ≡ []) × (optional mt515 slot ≡ true)) ⊎ (unless (isCode 1 most (value slot)) ≡ 0)
-      → (textForm 0 most (textOf (value slot)) ≡ true) × (contents (textOf (value slot)) ≡ value slot)
-  may-text slot most l e = code-text 0 most (value slot) (leb-true most 20 l) (go e)
-    where
-      go : ((value slot ≡ []) × (optional mt515 slot ≡ true)) ⊎ (unless (isCode 1 most (value slot)) ≡ 0) → isCode 0 most (value slot) ≡ true
-      go (inl n) = ap (isCode 0 most) (n .0) ∙ no-code most
-      go (inr n) = code-any 1 most (value slot) (unless-good _ n)
+  text-kept : (slot least most : ℕ) → has (everySlot mt515) slot ≡ true → slotOf slot .form ≡ codes least most → leb most 20 ≡ true
+      → (fitted slot (textOf (value slot)) ≡ true) × (contents (textOf (value slot)) ≡ value slot)
+  unfolding optional
+  text-kept slot least most b is l = fitted-text slot least most (value slot) is l (form-of slot b)
 
   amount-text : (slot : ℕ) → amountNumber (amountRead (value slot)) ≡ 0
       → (amountForm (amountOr0 (amountRead (value slot))) ≡ true) × (amountText (amountOr0 (amountRead (value slot))) ≡ tidied amount (value slot))
@@ -318,26 +306,26 @@ module _ (value : ℕ → List ℕ) (h : Held mt515 value) (rules : rulesOf mt51
   unfolding everySlot optional slotsOf memberSlots ownSlots fieldSlots mustSlots firstSlots header tree general pool details has tradeOf partyOf tests valueOf values tidied slotOf slots formNumber kindIn sideIn kindWord sideWord bytes
   each-kept =
       no-slot 0 refl refl
-      ⨾ kept 1 (must-text 1 1 16 refl (must-form 1 refl refl))
+      ⨾ kept 1 (text-kept 1 1 16 refl refl refl)
       ⨾ kept 2 (refl, function-kept)
       ⨾ kept 3 prep-kept
-      ⨾ kept 4 (may-text 4 16 refl (form-of 4 refl))
-      ⨾ kept 5 (may-text 5 16 refl (form-of 5 refl))
-      ⨾ kept 6 (may-text 6 16 refl (form-of 6 refl))
+      ⨾ kept 4 (text-kept 4 1 16 refl refl refl)
+      ⨾ kept 5 (text-kept 5 1 16 refl refl refl)
+      ⨾ kept 6 (text-kept 6 1 16 refl refl refl)
       ⨾ kept 7 (moment-held (value 7) (must-form 7 refl refl))
       ⨾ kept 8 (date-held (value 8) (must-form 8 refl refl))
       ⨾ kept 9 (amount-text 9 (must-form 9 refl refl))
       ⨾ kept 10 (refl, word-back sides (Side.Buyi ∷ Side.Sell ∷ []) Side.Buyi sideWord (refl ⨾ refl ⨾ tt) (value 10) (unless-good _ (must-form 10 refl refl)))
       ⨾ kept 11 (refl, word-back kinds (Kind.Inst ∷ Kind.Canc ∷ Kind.Mdfc ∷ Kind.Tddk ∷ []) Kind.Inst kindWord (refl ⨾ refl ⨾ refl ⨾ refl ⨾ tt) (value 11) (unless-good _ (must-form 11 refl refl)))
-      ⨾ kept 12 (must-text 12 4 4 refl (must-form 12 refl refl))
-      ⨾ kept 13 (may-text 13 16 refl (form-of 13 refl))
-      ⨾ kept 14 (may-text 14 20 refl (form-of 14 refl))
-      ⨾ kept 15 (must-text 15 4 4 refl (must-form 15 refl refl))
-      ⨾ kept 16 (may-text 16 16 refl (form-of 16 refl))
-      ⨾ kept 17 (may-text 17 20 refl (form-of 17 refl))
+      ⨾ kept 12 (text-kept 12 4 4 refl refl refl)
+      ⨾ kept 13 (text-kept 13 1 16 refl refl refl)
+      ⨾ kept 14 (text-kept 14 1 20 refl refl refl)
+      ⨾ kept 15 (text-kept 15 4 4 refl refl refl)
+      ⨾ kept 16 (text-kept 16 1 16 refl refl refl)
+      ⨾ kept 17 (text-kept 17 1 20 refl refl refl)
       ⨾ kept 18 (amount-text 18 (must-form 18 refl refl))
-      ⨾ kept 19 (must-text 19 9 9 refl (must-form 19 refl refl))
-      ⨾ kept 20 (may-text 20 9 refl (form-of 20 refl))
+      ⨾ kept 19 (text-kept 19 9 9 refl refl refl)
+      ⨾ kept 20 (text-kept 20 1 9 refl refl refl)
       ⨾ kept 21 (and-both (told-form (value 21) told-kept .0) (told-form (value 21) told-kept .1), told-back (value 21) told-kept)
       ⨾ no-slot 22 refl refl
       ⨾ no-slot 23 refl refl
@@ -345,8 +333,8 @@ module _ (value : ℕ → List ℕ) (h : Held mt515 value) (rules : rulesOf mt51
       ⨾ no-slot 25 refl refl
       ⨾ no-slot 26 refl refl
       ⨾ no-slot 27 refl refl
-      ⨾ kept 28 (must-text 28 0 12 refl (must-form 28 refl refl))
-      ⨾ kept 29 (must-text 29 1 8 refl (must-form 29 refl refl))
+      ⨾ kept 28 (text-kept 28 0 12 refl refl refl)
+      ⨾ kept 29 (text-kept 29 1 8 refl refl refl)
       ⨾ kept 30 (refl, fixed-line 30 (must-form 30 refl refl))
       ⨾ kept 31 (refl, fixed-line 31 (must-form 31 refl refl))
       ⨾ kept 32 (refl, fixed-line 32 (must-form 32 refl refl))

@@ -11,12 +11,12 @@ use lib.ListN.{length, drop, getD, length-append}
 use lib.Seq.{take-at, drop-at, drop-drop}
 use borrow.Author.Tests.{leb-true, le-leb, ltb-true, ltb-false, lt-ltb}
 use Rattle.text.specs.Bytes.{bytes, begins, same}
-use Rattle.text.specs.Classes.{allIn, inClass, isDigit, isBetween}
+use Rattle.text.specs.Classes.{allIn, inClass, isDigit, isBetween, isCode}
 use Rattle.text.specs.Texts.{contents, textOf, inForm as textForm}
 use Rattle.text.specs.declared.Text.{Text}
 use Rattle.text.proofs.Laws.{and-left, and-right, and-both, begins-append, text-back, in-form-facts, length-contents}
 use Rattle.digits.specs.Numerals.{digits}
-use Rattle.forms.specs.Forms.{isCode, wordAt, isWord}
+use Rattle.forms.specs.Forms.{wordAt, isWord}
 use Rattle.forms.specs.Narrative.{services, serviceIn, hasPeriod, periodIn, behindPeriod, hasReason, reasonIn, goodPeriod, goodReason, isNarrative}
 use Rattle.forms.proofs.Laws.{code-most}
 use Rattle.forms.proofs.Narratives.{nothing, periodPart, reasonPart, worded, period-digit, reason-code, narrative-is}

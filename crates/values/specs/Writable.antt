@@ -1,14 +1,19 @@
 -- Document 01, number 18: a record field is outside its slot's values or the forms of the record.
+use Prim.Native.Nat.{ℕ}
 use mathlib.Core.Bool.{Bool, true, _&&_, _||_}
 use mathlib.Core.List.{List, [], _∷_}
 use lib.Dec.{leb, eqb}
-use Rattle.text.specs.Texts.{inForm as textForm}
+use Rattle.text.specs.Texts.{contents, inForm as textForm}
 use Rattle.text.specs.declared.Text.{Text}
 use Rattle.amount.specs.Amounts.{inForm as amountForm}
 use Rattle.calendar.specs.Dates.{isDate, isMoment}
 use Rattle.calendar.specs.declared.Moment.{Moment}
+use Rattle.forms.specs.Forms.{formNumber}
+use Rattle.format.specs.Format.{mayLack}
 use Rattle.trade.specs.declared.Period.{Period}
 use Rattle.trade.specs.declared.Trade.{Trade}
+use Rattle.table.specs.Table.{slotOf}
+use Rattle.table.specs.Tree.{tree}
 
 -- PREP is absent, which is date 0 and time 0 and has no other form, or a date and time
 unfoldable pub prepForm : Moment → Bool
@@ -26,16 +31,20 @@ reasonForm reason = textForm 0 0 reason || textForm 4 4 reason
 -- ---- one test for each slot, in their order. What the layout makes mandatory must be there; what is optional may be of length
 -- 0. Code words are always words of their lists, and 23G is not held
 
+-- a text of the record is in form, and is a value of its slot, or absent
+unfoldable pub fitted : ℕ → Text → Bool
+fitted slot x = textForm 0 20 x && ((mayLack tree slot && eqb (x .len) 0) || eqb (formNumber (slotOf slot .form) (contents x)) 0)
+
 unfoldable pub tests : Trade → List Bool
 tests t =
     true
     -- 1 to 6: SEME, 23G, PREP, MAST, PREV, LIST
-    ∷ textForm 1 16 (t .seme)
+    ∷ fitted 1 (t .seme)
     ∷ true
     ∷ prepForm (t .prep)
-    ∷ textForm 0 16 (t .mast)
-    ∷ textForm 0 16 (t .prev)
-    ∷ textForm 0 16 (t .list)
+    ∷ fitted 4 (t .mast)
+    ∷ fitted 5 (t .prev)
+    ∷ fitted 6 (t .list)
     -- 7 to 11: TRAD, SETT, DEAL, BUSE, PROC
     ∷ isMoment (t .trad)
     ∷ isDate (t .sett .0)
@@ -43,21 +52,21 @@ tests t =
     ∷ true
     ∷ true
     -- 12 to 17: the code, the contra reference and the trader of the buyer, and of the seller
-    ∷ textForm 4 4 (t .buyer .code)
-    ∷ textForm 0 16 (t .buyer .reference)
-    ∷ textForm 0 20 (t .buyer .trader)
-    ∷ textForm 4 4 (t .seller .code)
-    ∷ textForm 0 16 (t .seller .reference)
-    ∷ textForm 0 20 (t .seller .trader)
+    ∷ fitted 12 (t .buyer .code)
+    ∷ fitted 13 (t .buyer .reference)
+    ∷ fitted 14 (t .buyer .trader)
+    ∷ fitted 15 (t .seller .code)
+    ∷ fitted 16 (t .seller .reference)
+    ∷ fitted 17 (t .seller .trader)
     -- 18 to 21: par, CUSIP, POOL, the narrative
     ∷ amountForm (t .par .0)
-    ∷ textForm 9 9 (t .cusip)
-    ∷ textForm 0 9 (t .pool)
+    ∷ fitted 19 (t .cusip)
+    ∷ fitted 20 (t .pool)
     ∷ (periodForm (t .period) && reasonForm (t .reason))
     -- 22 to 29: no slots, and then the password and the sender
     ∷ true ∷ true ∷ true ∷ true ∷ true ∷ true
-    ∷ textForm 0 12 (t .password)
-    ∷ textForm 1 8 (t .sender)
+    ∷ fitted 28 (t .password)
+    ∷ fitted 29 (t .sender)
     ∷ []
 
 unfoldable pub hold : List Bool → Bool

@@ -1,6 +1,7 @@
 -- `unpacked::trade_from` meets its contract. Assumes nothing.
 use mathlib.Core.Path.{refl}
-use Rattle.unpacked.specs.Unpacked.{momentFrom, tradeFrom}
+use Rattle.unpacked.specs.Unpacked.{tradeFrom}
+use Rattle.calendar.specs.Dates.{momentOf}
 use borrow.Author.Needs.{needs}
 use Rattle.unpacked.proofs.trade_from.Statement.{statement}
 use Rattle.unpacked.proofs.trade_from.Tie as tie
@@ -72,7 +73,7 @@ array-copy-out-t93 : tie.Need-array-copy-out-t93
 array-copy-out-t93 c = search needs
 
 returns : tie.Need-returns
-unfolding momentFrom tradeFrom
+unfolding momentOf tradeFrom
 returns c = refl
 
 pub trade-from-spec : {M : Type 1} → statement M

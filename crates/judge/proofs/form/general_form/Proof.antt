@@ -1,6 +1,7 @@
 -- `judge::form::general_form` meets its contract. Assumes nothing.
 use mathlib.Core.Bool.{and-true}
 use Rattle.values.specs.Writable.{tests, hold}
+use Rattle.judge.proofs.Turns.{widths}
 use borrow.Author.Needs.{needs}
 use Rattle.judge.proofs.form.general_form.Statement.{statement}
 use Rattle.judge.proofs.form.general_form.Tie as tie
@@ -23,7 +24,7 @@ in-form-requires-4 c κs = search needs
 returns : tie.Need-returns
 unfolding tests hold
 returns c =
-    rw (← c .before .before .before .before .in-form .ensures, ← c .before .before .before .prep-form .ensures, ← c .before .before .in-form2 .ensures, ← c .before .in-form3 .ensures, ← c .in-form4 .ensures, and-true (c .in-form4 .result))
+    rw (widths .seme _, widths .mast _, widths .prev _, widths .list _, ← c .before .before .before .before .in-form .ensures, ← c .before .before .before .prep-form .ensures, ← c .before .before .in-form2 .ensures, ← c .before .in-form3 .ensures, ← c .in-form4 .ensures, and-true (c .in-form4 .result))
 
 pub general-form-spec : {M : Type 1} → statement M
 general-form-spec =

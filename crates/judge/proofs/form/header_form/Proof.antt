@@ -1,6 +1,7 @@
 -- `judge::form::header_form` meets its contract. Assumes nothing.
 use mathlib.Core.Bool.{and-true}
 use Rattle.values.specs.Writable.{tests, hold}
+use Rattle.judge.proofs.Turns.{widths}
 use borrow.Author.Needs.{needs}
 use Rattle.judge.proofs.form.header_form.Statement.{statement}
 use Rattle.judge.proofs.form.header_form.Tie as tie
@@ -13,7 +14,7 @@ in-form-requires-2 c κs = search needs
 
 returns : tie.Need-returns
 unfolding tests hold
-returns c = rw (← c .before .in-form .ensures, ← c .in-form2 .ensures, and-true (c .in-form2 .result))
+returns c = rw (widths .password _, widths .sender _, ← c .before .in-form .ensures, ← c .in-form2 .ensures, and-true (c .in-form2 .result))
 
 pub header-form-spec : {M : Type 1} → statement M
 header-form-spec = tie.close (tie.spec in-form-requires in-form-requires-2 returns)

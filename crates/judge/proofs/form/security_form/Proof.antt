@@ -1,6 +1,7 @@
 -- `judge::form::security_form` meets its contract. Assumes nothing.
 use mathlib.Core.Bool.{_&&_, and-true}
 use Rattle.values.specs.Writable.{tests, hold}
+use Rattle.judge.proofs.Turns.{widths}
 use borrow.Author.Needs.{needs}
 use Rattle.judge.proofs.form.security_form.Statement.{statement}
 use Rattle.judge.proofs.form.security_form.Tie as tie
@@ -23,7 +24,7 @@ reason-form-requires c κs = search needs
 returns : tie.Need-returns
 unfolding tests hold
 returns c =
-    rw (← c .before .before .before .before .in-form .ensures, ← c .before .before .before .in-form2 .ensures, ← c .before .before .in-form3 .ensures, ← c .before .period-form .ensures, ← c .reason-form .ensures, and-true (c .before .period-form .result && c .reason-form .result))
+    rw (widths .cusip _, widths .pool _, ← c .before .before .before .before .in-form .ensures, ← c .before .before .before .in-form2 .ensures, ← c .before .before .in-form3 .ensures, ← c .before .period-form .ensures, ← c .reason-form .ensures, and-true (c .before .period-form .result && c .reason-form .result))
 
 pub security-form-spec : {M : Type 1} → statement M
 security-form-spec =

@@ -1,9 +1,9 @@
--- `forms::is_code` meets its contract. Assumes nothing.
+-- `text::is_code` meets its contract. Assumes nothing.
 use borrow.Author.Tests.{le-leb, lt-leb}
-use Rattle.forms.specs.Forms.{isCode}
+use Rattle.text.specs.Classes.{isCode}
 use borrow.Author.Needs.{needs}
-use Rattle.forms.proofs.is_code.Statement.{statement}
-use Rattle.forms.proofs.is_code.Tie as tie
+use Rattle.text.proofs.is_code.Statement.{statement}
+use Rattle.text.proofs.is_code.Tie as tie
 
 returns : tie.Need-returns
 unfolding isCode
