@@ -33,6 +33,7 @@ use Rattle.format.specs.Lawful.{saidIn, Lawful}
 use Rattle.format.specs.Field.{nowhere, asked, lineFor, frontOf, fieldOf, spanIn, Finding}
 use Rattle.format.proofs.Laws.{Layout, Laws}
 use Rattle.format.proofs.Said.{valued-at}
+use Rattle.format.proofs.Rows.{rows-body}
 use Rattle.format.proofs.Accepting.{body-taken}
 use Rattle.format.proofs.Holds.{not-header}
 use Rattle.format.proofs.Demands.{demands}
@@ -113,11 +114,10 @@ module _ (F : Format) where
   module _ (L : Layout F) (W : Laws F) where
     -- the reading has taken all lines, so the first that a search meets for the slot is the slot's
     pub line-found : (m : List ℕ) (slot : ℕ) → asked F m slot ≡ true → foundOf (tableOf (F .tree)) m slot ≡ lineFor F m slot
-    unfolding bodyOf
     line-found m slot h =
         let w = demands F L W .accepts-lawful m .0 (accepted m slot h) in
         let b = body-taken F L m (w .sheet) (w .laid) (w .lines) in
-        found-laid (tableOf (F .tree)) m slot (takenOf 5 (w .sheet)) b ∙ line-is m slot h (takenOf 5 (w .sheet)) b
+        found-laid (tableOf (F .tree)) m slot (takenOf 5 (w .sheet)) (rows-body F (L .good) m ∙ b) ∙ line-is m slot h (takenOf 5 (w .sheet)) b
 
     -- so a search finds the field
     pub span-found : (m : List ℕ) (slot : ℕ) → asked F m slot ≡ true → spanOf (tableOf (F .tree)) m slot (frontOf F slot) ≡ spanIn F m slot

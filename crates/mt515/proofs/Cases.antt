@@ -3,8 +3,9 @@
 use mathlib.Core.Path.{refl}
 use Rattle.format.specs.Reading as Any
 use Rattle.reader.specs.Header.{headVerdict, headPass, headValue}
-use Rattle.reader.specs.Take.{passOf}
-use Rattle.sheets.specs.Trees.{fieldRows, memberRows, rowsIn, tableOf}
+use Rattle.sheets.specs.Trees.{chain}
+use Rattle.sheets.specs.Sheets.{has, lacking}
+use Rattle.sheets.specs.Taking.{fit, next, seek, laterField, tell, moveOf, following, walk, takenBy}
 use Rattle.mt515.specs.Cases.{b, ended, without, with, behind, exchanged, cases, tradeOfB, Answered}
 use Rattle.mt515.specs.Reading.{readOf}
 use Rattle.table.specs.Table.{slots, header, slotOf}
@@ -13,7 +14,7 @@ use Rattle.walk.specs.Walk.{bodyPass, takenIn, valueVerdict, valuesPass, valueF
 use Rattle.lines.specs.Lines.{inFront, cutLines, bare, linesOf, ended as ended-lines, sizePass, mayStand, bytePass, endPass, linesPass, lineAt}
 use Rattle.lines.specs.Verdicts.{refused, pass, then, when}
 use Rattle.blocks.specs.Blocks.{isTagged, nameOf, isName, named, roleOf, ending, opening, closing, turn, follow, nest, nestPass}
-use Rattle.layout.specs.Layout.{fits, isSeen, lacks, beneath, against, look, onward, scan, stepOf, withTaken, marked, behind as behind-layout, runOf, layoutOf}
+use Rattle.layout.specs.Layout.{withTaken}
 use Rattle.forms.specs.Forms.{isCode, wordAt, isWord, unless, formNumber, valueNumber}
 use Rattle.forms.specs.Narrative.{serviceIn, hasPeriod, periodIn, behindPeriod, hasReason, reasonIn, goodPeriod, goodReason, isNarrative}
 use Rattle.trade.specs.Narrative.{serviceOf, periodOf}
@@ -27,5 +28,5 @@ use Rattle.text.specs.Classes.{isBetween, isDigit, isUpper, isC, inClass, allIn
 use Rattle.text.specs.Texts.{contents, textOf, inForm as inForm-texts}
 
 pub answered : Answered
-unfolding Any.reading Any.bodyOf Any.valueOn Any.rulesOf Any.verdictOf Any.readOf headVerdict headPass headValue passOf fieldRows memberRows rowsIn tableOf bodyPass takenIn b ended without with behind exchanged cases tradeOfB readOf general pool details tree slots header slotOf valueVerdict valuesPass valueFrom inFront cutLines bare linesOf ended-lines sizePass mayStand bytePass endPass linesPass lineAt refused pass then isTagged nameOf isName named roleOf ending opening closing turn follow nest nestPass fits isSeen lacks beneath against look onward scan stepOf withTaken marked behind-layout runOf layoutOf isCode wordAt isWord unless formNumber valueNumber serviceIn hasPeriod periodIn behindPeriod hasReason reasonIn goodPeriod goodReason isNarrative serviceOf periodOf kindIn sideIn partyOf tradeOf nobody never nought blankTrade other own contra stray functionOf lacksField tddkOnly tddkNever hasForbidden when recordPass kindsPass year month day leap lengths monthLength isDate isTime earlier isMoment dateFrom dateRead momentOf momentFrom momentRead dateText momentText whole decimals isAmount trimmed joined shortened tidy valueFrom-amounts valueOf amountRead inForm spread amountText partsRead noughts numeralFrom numeral digits numberOf-numerals fixedOf tenTo bytes begins same before parts isBetween isDigit isUpper isC inClass allIn contents textOf inForm-texts
+unfolding Any.reading Any.bodyOf Any.valueOn Any.rulesOf Any.verdictOf Any.readOf headVerdict headPass headValue bodyPass takenIn b ended without with behind exchanged cases tradeOfB readOf general pool details tree slots header slotOf valueVerdict valuesPass valueFrom inFront cutLines bare linesOf ended-lines sizePass mayStand bytePass endPass linesPass lineAt refused pass then isTagged nameOf isName named roleOf ending opening closing turn follow nest nestPass withTaken fit next seek laterField tell moveOf following walk takenBy chain has lacking isCode wordAt isWord unless formNumber valueNumber serviceIn hasPeriod periodIn behindPeriod hasReason reasonIn goodPeriod goodReason isNarrative serviceOf periodOf kindIn sideIn partyOf tradeOf nobody never nought blankTrade other own contra stray functionOf lacksField tddkOnly tddkNever hasForbidden when recordPass kindsPass year month day leap lengths monthLength isDate isTime earlier isMoment dateFrom dateRead momentOf momentFrom momentRead dateText momentText whole decimals isAmount trimmed joined shortened tidy valueFrom-amounts valueOf amountRead inForm spread amountText partsRead noughts numeralFrom numeral digits numberOf-numerals fixedOf tenTo bytes begins same before parts isBetween isDigit isUpper isC inClass allIn contents textOf inForm-texts
 answered = (refl, refl, refl)

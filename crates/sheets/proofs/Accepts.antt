@@ -12,12 +12,12 @@ use native.Mathlib.Nat.{not-suc-le-zero}
 use Rattle.text.specs.Bytes.{begins, same}
 use Rattle.text.proofs.Bools.{is-false, or-none}
 use Rattle.text.proofs.Laws.{and-left, and-right, and-both, same-refl, same-eq, begins-append}
-use Rattle.layout.specs.Layout.{Taken, Run, taken, withTaken, layoutOf}
-use Rattle.sheets.specs.Trees.{Field, Member, Tree, last, line, block, group, chain, tableOf}
+use Rattle.layout.specs.Layout.{Taken, Run, taken, withTaken}
+use Rattle.sheets.specs.Trees.{Field, Member, Tree, last, line, block, group, chain}
 use Rattle.sheets.specs.Sheets.{Entry, edge, held, lineOf, linesIn, takenIn, come, has, lacking, Among, front, later, Laid, shut, given, absent, opened, passed, member, done, Sheet}
+use Rattle.sheets.specs.Taking.{Spot, within, first, over, go, fit, next, seek, laterField, tell, moveOf, following, walk, takenBy}
 use Rattle.sheets.proofs.Checks.{goodSlot, goodFields, goodMembers, goodTree, Fit, starts, whole, fitsLine, clash, avoids, noneOf, apartFields, laterApart, apartMembers, apart}
-use Rattle.sheets.proofs.Machine.{Spot, within, first, over, go, fit, next, seek, laterField, tell, moveOf, following, walk}
-use Rattle.sheets.proofs.Walk.{good-chain, layout-walk}
+use Rattle.sheets.proofs.Moves.{good-chain}
 
 -- ---- texts that do not clash
 
@@ -134,7 +134,7 @@ takes-edge : (slots : List ℕ) (n : ℕ) (spot to : Spot) (ts us vs : List Tree
 unfolding Takes linesIn lineOf walk takenIn come lineBehind following
 takes-edge slots n spot to ts us vs o es e h more = rw e (h more)
 
--- a slot of 1 to 31 is not the 0 of the first and last lines of blocks
+-- a slot with a place is not the 0 of the first and last lines of blocks
 pub not-zero : (s : ℕ) → goodSlot s ≡ true → eqb s 0 ≡ false
 unfolding goodSlot
 not-zero s g = ne-eqb s 0 (λ z. not-suc-le-zero (rw z at (leb-true 1 s (and-left (leb 1 s) _ g))))
@@ -264,9 +264,6 @@ withAll-taken [] = refl
 withAll-taken (t ∷ ts) = rw (withAll-taken ts)
 
 -- the lines of a sheet are taken for its slots
-pub reads : (t : Tree) (es : List Entry) (n : ℕ) → goodTree t ≡ true → apart t ≡ true → Sheet t es → layoutOf (tableOf t) n (linesIn es) ≡ taken (takenIn n es)
-unfolding Takes resume walk
-reads t es n g h l =
-    layout-walk t n (linesIn es) g
-    ∙ (rw (append-nil (linesIn es)) at (takes-sheet l h g n [] []))
-    ∙ withAll-taken (takenIn n es)
+pub reads : (t : Tree) (es : List Entry) (n : ℕ) → goodTree t ≡ true → apart t ≡ true → Sheet t es → takenBy t n (linesIn es) ≡ taken (takenIn n es)
+unfolding Takes resume walk takenBy
+reads t es n g h l = (rw (append-nil (linesIn es)) at (takes-sheet l h g n [] [])) ∙ withAll-taken (takenIn n es)
