@@ -13,6 +13,7 @@ use Rattle.text.specs.Bytes.{begins, same}
 use Rattle.text.proofs.Bools.{is-false, or-none}
 use Rattle.text.proofs.Laws.{and-left, and-right, and-both, same-refl, same-eq, begins-append}
 use Rattle.layout.specs.Layout.{Taken, Run, taken, withTaken}
+use Rattle.layout.proofs.Laws.{withAll, all-none, all-append}
 use Rattle.sheets.specs.Trees.{Field, Member, Tree, last, line, block, group, chain}
 use Rattle.sheets.specs.Sheets.{Entry, edge, held, lineOf, linesIn, takenIn, come, has, lacking, Among, front, later, Laid, shut, given, absent, opened, passed, member, done, Sheet}
 use Rattle.sheets.specs.Taking.{Spot, within, first, over, go, fit, next, seek, laterField, tell, moveOf, following, walk, takenBy}
@@ -66,11 +67,6 @@ clear a (done {o = o} e l) h = clear a l (and-right (not (clash a (whole o))) _ 
 
 -- ---- a sheet in front of further lines
 
--- what is taken of a sheet, in front of a run
-unfoldable pub withAll : List Taken → Run → Run
-withAll [] run = run
-withAll (t ∷ ts) run = withTaken t (withAll ts run)
-
 -- the number of the line behind a sheet
 unfoldable pub lineBehind : ℕ → List Entry → ℕ
 lineBehind n [] = n
@@ -86,11 +82,6 @@ unfolding takenIn lineBehind
 taken-append n [] ds = refl
 taken-append n (edge o ∷ es) ds = taken-append (suc n) es ds
 taken-append n (held s k v ∷ es) ds = ap (λ (l : List Taken). record { slot = s; line = n; value = v } ∷ l) (taken-append (suc n) es ds)
-
-all-append : (ts us : List Taken) (run : Run) → withAll (ts ++ us) run ≡ withAll ts (withAll us run)
-unfolding withAll
-all-append [] us run = refl
-all-append (t ∷ ts) us run = ap (withTaken t) (all-append ts us run)
 
 pub come-append : (slots : List ℕ) (es ds : List Entry) → come slots (es ++ ds) ≡ come (come slots es) ds
 unfolding come
@@ -258,12 +249,7 @@ takes-sheet {slots = slots} {es = es} (done {n = n} {a = a} {o = o} {c = c} {ms 
 
 -- ---- and a message with it
 
-withAll-taken : (ts : List Taken) → withAll ts (taken []) ≡ taken ts
-unfolding withAll withTaken
-withAll-taken [] = refl
-withAll-taken (t ∷ ts) = rw (withAll-taken ts)
-
 -- the lines of a sheet are taken for its slots
 pub reads : (t : Tree) (es : List Entry) (n : ℕ) → goodTree t ≡ true → apart t ≡ true → Sheet t es → takenBy t n (linesIn es) ≡ taken (takenIn n es)
 unfolding Takes resume walk takenBy
-reads t es n g h l = (rw (append-nil (linesIn es)) at (takes-sheet l h g n [] [])) ∙ withAll-taken (takenIn n es)
+reads t es n g h l = (rw (append-nil (linesIn es)) at (takes-sheet l h g n [] [])) ∙ all-none (takenIn n es)
