@@ -16,11 +16,11 @@ use Rattle.lines.proofs.Laws.{then-zero}
 use Rattle.lines.proofs.Joins.{whole-lines}
 use Rattle.blocks.specs.Blocks.{nest, nestPass}
 use Rattle.layout.specs.Layout.{Run, refusedAt, taken, Taken}
-use Rattle.sheets.specs.Sheets.{Entry, linesIn, takenIn, Sheet}
+use Rattle.sheets.specs.Sheets.{Entry, linesIn, Sheet}
 use Rattle.sheets.proofs.Moves.{NumberedRun, numbered}
-use Rattle.sheets.proofs.Accepts.{reads}
+use Rattle.sheets.proofs.Accepts.{takenOn, reads}
 use Rattle.sheets.proofs.Cuts.{cuts}
-use Rattle.walk.specs.Walk.{valuesPass, bodyPass, takenIn as takenOf}
+use Rattle.walk.specs.Walk.{valuesPass, bodyPass, takenIn}
 use Rattle.reader.specs.Header.{headPass}
 use Rattle.format.specs.Format.{Format}
 use Rattle.format.specs.Reading.{reading, bodyOf, valueOn, rulesOf, verdictOf, readOf}
@@ -52,7 +52,7 @@ module _ (F : Format) where
     pub head : headPass (F .slotOf) (F .header) m .number ≡ 0
     pub nest : nestPass m .number ≡ 0
     pub body : bodyPass (F .slotOf) (bodyOf F m) .number ≡ 0
-    pub rules : rulesOf F (valueOn F m (takenOf (bodyOf F m))) .number ≡ 0
+    pub rules : rulesOf F (valueOn F m (takenIn (bodyOf F m))) .number ≡ 0
 
   pub passes-from : (m : List ℕ) → verdictOf F m .number ≡ 0 → Passes m
   unfolding verdictOf
@@ -63,7 +63,7 @@ module _ (F : Format) where
       let (b, r) = then-zero (bodyPass (F .slotOf) (bodyOf F m)) _ z3 in
       record { text = t; head = h; nest = n; body = b; rules = r }
 
-  pub passes-to : (m : List ℕ) → Passes m → verdictOf F m ≡ rulesOf F (valueOn F m (takenOf (bodyOf F m)))
+  pub passes-to : (m : List ℕ) → Passes m → verdictOf F m ≡ rulesOf F (valueOn F m (takenIn (bodyOf F m)))
   unfolding verdictOf
   passes-to m p =
       then-next (linesPass m) _ (p .text) ∙ then-next (headPass (F .slotOf) (F .header) m) _ (p .head) ∙ then-next (nestPass m) _ (p .nest)
@@ -103,7 +103,7 @@ module _ (F : Format) where
       pub laid : Sheet (F .tree) sheet
       pub lines : drop 4 (linesOf m) ≡ linesIn sheet
       pub valued : Valued F sheet
-      pub body : bodyOf F m ≡ taken (takenIn 5 sheet)
+      pub body : bodyOf F m ≡ taken (takenOn 5 sheet)
 
     pub told : (m : List ℕ) → Cut m → bodyPass (F .slotOf) (bodyOf F m) .number ≡ 0 → Told m
     unfolding bodyOf
@@ -113,7 +113,7 @@ module _ (F : Format) where
         record { sheet = es; laid = l; lines = c .body ∙ q; valued = valued F es 5 (rw r at v); body = rw r at e }
 
     -- what the reader makes of a sheet's lines
-    pub body-taken : (m : List ℕ) (es : List Entry) → Sheet (F .tree) es → drop 4 (linesOf m) ≡ linesIn es → bodyOf F m ≡ taken (takenIn 5 es)
+    pub body-taken : (m : List ℕ) (es : List Entry) → Sheet (F .tree) es → drop 4 (linesOf m) ≡ linesIn es → bodyOf F m ≡ taken (takenOn 5 es)
     unfolding bodyOf
     body-taken m es l e = rw e (reads (F .tree) es 5 (L .good) (L .is-apart) l)
 
@@ -127,26 +127,26 @@ module _ (F : Format) where
     module _ (W : Laws F) where
       -- the record of a lawful message is what its sheet says
       module _ (m : List ℕ) (es : List Entry) (l : Sheet (F .tree) es) where
-        record-same : F .recordOf (valueOn F m (takenIn 5 es)) ≡ F .recordOf (saidIn F m es)
-        record-same = W .rests (valueOn F m (takenIn 5 es)) (saidIn F m es) (λ s n. said-is F L m es 5 s l) .0
+        record-same : F .recordOf (valueOn F m (takenOn 5 es)) ≡ F .recordOf (saidIn F m es)
+        record-same = W .rests (valueOn F m (takenOn 5 es)) (saidIn F m es) (λ s n. said-is F L m es 5 s l) .0
 
-        rules-same : rulesOf F (valueOn F m (takenIn 5 es)) ≡ rulesOf F (saidIn F m es)
+        rules-same : rulesOf F (valueOn F m (takenOn 5 es)) ≡ rulesOf F (saidIn F m es)
         unfolding rulesOf
         rules-same =
-            ap (F .readRules (valueOn F m (takenIn 5 es))) record-same
-            ∙ W .rests (valueOn F m (takenIn 5 es)) (saidIn F m es) (λ s n. said-is F L m es 5 s l) .1 (F .recordOf (saidIn F m es))
+            ap (F .readRules (valueOn F m (takenOn 5 es))) record-same
+            ∙ W .rests (valueOn F m (takenOn 5 es)) (saidIn F m es) (λ s n. said-is F L m es 5 s l) .1 (F .recordOf (saidIn F m es))
 
-        module _ (b : bodyOf F m ≡ taken (takenIn 5 es)) where
-          body-rules : rulesOf F (valueOn F m (takenOf (bodyOf F m))) ≡ rulesOf F (saidIn F m es)
-          unfolding takenOf
+        module _ (b : bodyOf F m ≡ taken (takenOn 5 es)) where
+          body-rules : rulesOf F (valueOn F m (takenIn (bodyOf F m))) ≡ rulesOf F (saidIn F m es)
+          unfolding takenIn
           body-rules = rw b rules-same
 
-          body-values : bodyPass (F .slotOf) (bodyOf F m) ≡ valuesPass (F .slotOf) (takenIn 5 es)
+          body-values : bodyPass (F .slotOf) (bodyOf F m) ≡ valuesPass (F .slotOf) (takenOn 5 es)
           unfolding bodyPass
           body-values = rw b
 
           pub record-said : verdictOf F m .number ≡ 0 → readOf F m ≡ record { number = 0; line = verdictOf F m .line; held = F .recordOf (saidIn F m es) }
-          unfolding readOf reading takenOf
+          unfolding readOf reading takenIn
           record-said z = rw (z, b, record-same)
 
       -- an accepted message has line 0, since the rules never say another
@@ -176,7 +176,7 @@ module _ (F : Format) where
           let l = w .laid in
           let b = body-taken m es l (w .lines) in
           let number : Verdict → ℕ = λ v. v .number in
-          let rules : number (rulesOf F (valueOn F m (takenOf (bodyOf F m)))) ≡ 0 = ap number (body-rules m es l b) ∙ w .rules in
+          let rules : number (rulesOf F (valueOn F m (takenIn (bodyOf F m)))) ≡ 0 = ap number (body-rules m es l b) ∙ w .rules in
           ap number
           (passes-to m
           (record {

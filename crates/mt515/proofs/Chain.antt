@@ -17,8 +17,8 @@ use Rattle.walk.specs.Walk.{takenIn}
 use Rattle.walk.specs.declared.Body.{Body}
 use Rattle.reader.specs.Take.{takeOf}
 use Rattle.reader.proofs.Laws.{passOf, take-verdict, take-values}
-use Rattle.format.specs.Format.{everySlot}
 use Rattle.format.specs.Reading as Any
+use Rattle.format.proofs.Laws.{everySlot}
 use Rattle.format.proofs.Rows.{rows-body, rows-verdict}
 use Rattle.format.proofs.Tests.{every, every-at}
 use Rattle.trade.specs.Records.{tradeOf, blankTrade}
