@@ -9,8 +9,10 @@ use lib.ListN.{length, drop}
 use Rattle.text.specs.Bytes.{bytes, begins, same, before}
 use Rattle.text.specs.Classes.{isBetween}
 use Rattle.lines.specs.Lines.{inFront, cutBehind, bare, withoutEnding, linesOf, lineAt, startBehind, endOf}
-use Rattle.layout.specs.Layout.{Taken, fits, isSeen, lacks, beneath, against, look, onward, scan, stepOf, withTaken, marked, behind, runOf, layoutOf}
-use Rattle.sheets.specs.Trees.{fieldRows, memberRows, rowsIn, tableOf}
+use Rattle.layout.specs.Layout.{Taken, withTaken}
+use Rattle.sheets.specs.Trees.{chain}
+use Rattle.sheets.specs.Sheets.{has, lacking}
+use Rattle.sheets.specs.Taking.{fit, next, seek, laterField, tell, moveOf, following, walk, takenBy}
 use Rattle.format.specs.Field as Any
 use Rattle.format.specs.Reading.{bodyOf}
 use Rattle.table.specs.Table.{slots, slotOf}
@@ -54,11 +56,11 @@ accepted =
     (ap (λ (r : Reading). r .number) (head-eq-of-cons-eq e), ap (λ (r : Reading). r .number) (head-eq-of-cons-eq (tail-eq-of-cons-eq e)))
 
 values : map (λ (row : ℕ × String). valueIn (ended "\n" b) (row .0)) fields ≡ map (λ (row : ℕ × String). bytes (row .1)) fields
-unfolding bytes begins same before isBetween inFront cutBehind bare withoutEnding linesOf lineAt fits isSeen lacks beneath against look onward scan stepOf withTaken marked behind runOf layoutOf fieldRows memberRows rowsIn tableOf general pool details tree slots slotOf bodyOf takenIn b ended fields noLine takenFor Any.frontOf startBehind endOf lineIn valueIn
+unfolding bytes begins same before isBetween inFront cutBehind bare withoutEnding linesOf lineAt withTaken fit next seek laterField tell moveOf following walk takenBy chain has lacking general pool details tree slots slotOf bodyOf takenIn b ended fields noLine takenFor Any.frontOf startBehind endOf lineIn valueIn
 values = refl
 
 places : (offsetIn (ended "\n" b) 4 ≡ 108) × (offsetIn (ended "\r\n" b) 4 ≡ 117) × (offsetIn (ended "\n" b) 15 ≡ 306) × (offsetIn (ended "\r\n" b) 21 ≡ 470)
-unfolding bytes begins same before isBetween inFront cutBehind bare withoutEnding linesOf lineAt fits isSeen lacks beneath against look onward scan stepOf withTaken marked behind runOf layoutOf fieldRows memberRows rowsIn tableOf general pool details tree slots slotOf bodyOf takenIn b ended fields noLine takenFor Any.frontOf startBehind endOf lineIn valueIn offsetIn
+unfolding bytes begins same before isBetween inFront cutBehind bare withoutEnding linesOf lineAt withTaken fit next seek laterField tell moveOf following walk takenBy chain has lacking general pool details tree slots slotOf bodyOf takenIn b ended fields noLine takenFor Any.frontOf startBehind endOf lineIn valueIn offsetIn
 places = (refl, refl, refl, refl)
 
 pub answered : Answered

@@ -1,11 +1,10 @@
 -- Demand 2, acceptance: a message is read exactly when it is lawful, and its record is what its sheet says.
 -- Assumes nothing.
-use Prim.Native.Nat.{ℕ, suc, _≤_}
+use Prim.Native.Nat.{ℕ, _≤_}
 use mathlib.Core.Path.{_≡_, refl, sym, ap, _∙_}
-use mathlib.Core.Bool.{true, false, true≢false}
+use mathlib.Core.Bool.{true}
 use mathlib.Core.List.{List, [], _∷_, _++_}
 use native.Mathlib.Omega.{arith}
-use lib.Dec.{eqb}
 use lib.ListN.{length, drop, length-append}
 use lib.Seq.{drop-append-le}
 use Rattle.text.specs.Bytes.{bytes}
@@ -16,18 +15,13 @@ use Rattle.lines.specs.declared.Verdict.{Verdict}
 use Rattle.lines.proofs.Laws.{then-zero}
 use Rattle.lines.proofs.Joins.{whole-lines}
 use Rattle.blocks.specs.Blocks.{nest, nestPass}
-use Rattle.layout.specs.Rows.{Row}
-use Rattle.layout.specs.Layout.{Run, refusedAt, taken, withTaken, Taken, marked, behind, stepOf, runOf, layoutOf}
-use Rattle.layout.specs.declared.Place.{Place}
-use Rattle.layout.specs.declared.Step.{Step}
-use Rattle.sheets.specs.Sheets.{Entry, linesIn, takenIn, Sheet}
-use Rattle.sheets.specs.Trees.{tableOf}
-use Rattle.text.proofs.Bools.{of-both}
-use Rattle.sheets.proofs.Accepts.{reads}
+use Rattle.layout.specs.Layout.{Run, refusedAt, taken, Taken}
+use Rattle.sheets.specs.Sheets.{Entry, linesIn, Sheet}
+use Rattle.sheets.proofs.Moves.{NumberedRun, numbered}
+use Rattle.sheets.proofs.Accepts.{takenOn, reads}
 use Rattle.sheets.proofs.Cuts.{cuts}
-use Rattle.walk.specs.Walk.{valuesPass, bodyPass, takenIn as takenOf}
+use Rattle.walk.specs.Walk.{valuesPass, bodyPass, takenIn}
 use Rattle.reader.specs.Header.{headPass}
-use Rattle.reader.specs.Take.{passOf}
 use Rattle.format.specs.Format.{Format}
 use Rattle.format.specs.Reading.{reading, bodyOf, valueOn, rulesOf, verdictOf, readOf}
 use Rattle.format.specs.Lawful.{Valued, saidIn, Lawful}
@@ -39,64 +33,41 @@ use Rattle.format.proofs.Said.{values-pass, valued, sheet-full, said-is
 
 -- ---- passes one after the other
 
-then-both : (v w : Verdict) → v .number ≡ 0 → w .number ≡ 0 → then v w .number ≡ 0
-unfolding then
-then-both v w h k = rw h k
-
 then-next : (v w : Verdict) → v .number ≡ 0 → then v w ≡ w
 unfolding then
 then-next v w h = rw h
 
--- ---- a run that is refused has a number
-
-Sound : Run → Type 0
-Sound (refusedAt k n) = eqb k 0 ≡ false
-Sound (taken ts) = Unit
-
-sound-with : (t : Taken) (run : Run) → Sound run → Sound (withTaken t run)
-unfolding Sound withTaken
-sound-with t (refusedAt k n) h = h
-sound-with t (taken ts) h = tt
-
-sound-behind : (n : ℕ) (l : List ℕ) (step : Step) (rest : Run) → Sound rest → Sound (behind n l step rest)
-unfolding behind Sound
-sound-behind n l step rest h =
-    of-both Sound (eqb (step .number) 0)
-    (λ e. of-both Sound (eqb (step .slot) 0) (λ q. h) (λ q. sound-with _ rest h))
-    (λ e. e)
-
-sound : (rows : List Row) (here : Place) (seen : List ℕ) (n : ℕ) (ls : List (List ℕ)) → Sound (runOf rows here seen n ls)
-unfolding runOf Sound
-sound rows here seen n [] = tt
-sound rows here seen n (l ∷ ls) =
-    let step = stepOf rows here seen l in
-    sound-behind n l step (runOf rows (step .place) (marked seen step) (suc n) ls) (sound rows (step .place) (marked seen step) (suc n) ls)
+-- ---- a run that passes was taken, since a refusal has a number
 
 module _ (F : Format) where
-  all-taken : (run : Run) → Sound run → bodyPass (F .slotOf) run .number ≡ 0 → (ts : List Taken) × (run ≡ taken ts) × (valuesPass (F .slotOf) ts .number ≡ 0)
-  unfolding Sound bodyPass refused
-  all-taken (refusedAt k n) h z = absurd (true≢false (rw z at h))
+  all-taken : (run : Run) → NumberedRun run → bodyPass (F .slotOf) run .number ≡ 0 → (ts : List Taken) × (run ≡ taken ts) × (valuesPass (F .slotOf) ts .number ≡ 0)
+  unfolding bodyPass refused
+  all-taken (refusedAt k n) h z = let no : ⊥ = omega arith in absurd no
   all-taken (taken ts) h z = (ts, refl, z)
 
-  -- 1 to 12, pass by pass
+  -- ---- pass by pass
+
   pub record Passes (m : List ℕ) : Type 0 where
     pub text : linesPass m .number ≡ 0
     pub head : headPass (F .slotOf) (F .header) m .number ≡ 0
     pub nest : nestPass m .number ≡ 0
     pub body : bodyPass (F .slotOf) (bodyOf F m) .number ≡ 0
+    pub rules : rulesOf F (valueOn F m (takenIn (bodyOf F m))) .number ≡ 0
 
-  pub passes-from : (m : List ℕ) → passOf (tableOf (F .tree)) (F .slotOf) (F .header) m .number ≡ 0 → Passes m
-  unfolding passOf bodyOf
+  pub passes-from : (m : List ℕ) → verdictOf F m .number ≡ 0 → Passes m
+  unfolding verdictOf
   passes-from m z =
       let (t, z1) = then-zero (linesPass m) _ z in
       let (h, z2) = then-zero (headPass (F .slotOf) (F .header) m) _ z1 in
-      let (n, b) = then-zero (nestPass m) _ z2 in
-      record { text = t; head = h; nest = n; body = b }
+      let (n, z3) = then-zero (nestPass m) _ z2 in
+      let (b, r) = then-zero (bodyPass (F .slotOf) (bodyOf F m)) _ z3 in
+      record { text = t; head = h; nest = n; body = b; rules = r }
 
-  pub passes-to : (m : List ℕ) → Passes m → passOf (tableOf (F .tree)) (F .slotOf) (F .header) m .number ≡ 0
-  unfolding passOf bodyOf
+  pub passes-to : (m : List ℕ) → Passes m → verdictOf F m ≡ rulesOf F (valueOn F m (takenIn (bodyOf F m)))
+  unfolding verdictOf
   passes-to m p =
-      then-both (linesPass m) _ (p .text) (then-both (headPass (F .slotOf) (F .header) m) _ (p .head) (then-both (nestPass m) _ (p .nest) (p .body)))
+      then-next (linesPass m) _ (p .text) ∙ then-next (headPass (F .slotOf) (F .header) m) _ (p .head) ∙ then-next (nestPass m) _ (p .nest)
+      ∙ then-next (bodyPass (F .slotOf) (bodyOf F m)) _ (p .body)
 
   module _ (L : Layout F) where
     -- ---- the lines behind the header
@@ -132,17 +103,17 @@ module _ (F : Format) where
       pub laid : Sheet (F .tree) sheet
       pub lines : drop 4 (linesOf m) ≡ linesIn sheet
       pub valued : Valued F sheet
-      pub body : bodyOf F m ≡ taken (takenIn 5 sheet)
+      pub body : bodyOf F m ≡ taken (takenOn 5 sheet)
 
     pub told : (m : List ℕ) → Cut m → bodyPass (F .slotOf) (bodyOf F m) .number ≡ 0 → Told m
-    unfolding bodyOf layoutOf
+    unfolding bodyOf
     told m c b =
-        let (ts, e, v) = all-taken (bodyOf F m) (sound (tableOf (F .tree)) _ _ 5 (drop 4 (linesOf m))) b in
+        let (ts, e, v) = all-taken (bodyOf F m) (numbered (F .tree) 5 (drop 4 (linesOf m))) b in
         let (es, q, r, l) = cuts (F .tree) (bytes "-") (c .early) 5 ts (L .good) (L .ends-at) (rw (← (c .body)) e) in
         record { sheet = es; laid = l; lines = c .body ∙ q; valued = valued F es 5 (rw r at v); body = rw r at e }
 
     -- what the reader makes of a sheet's lines
-    pub body-taken : (m : List ℕ) (es : List Entry) → Sheet (F .tree) es → drop 4 (linesOf m) ≡ linesIn es → bodyOf F m ≡ taken (takenIn 5 es)
+    pub body-taken : (m : List ℕ) (es : List Entry) → Sheet (F .tree) es → drop 4 (linesOf m) ≡ linesIn es → bodyOf F m ≡ taken (takenOn 5 es)
     unfolding bodyOf
     body-taken m es l e = rw e (reads (F .tree) es 5 (L .good) (L .is-apart) l)
 
@@ -156,41 +127,37 @@ module _ (F : Format) where
     module _ (W : Laws F) where
       -- the record of a lawful message is what its sheet says
       module _ (m : List ℕ) (es : List Entry) (l : Sheet (F .tree) es) where
-        record-same : F .recordOf (valueOn F m (takenIn 5 es)) ≡ F .recordOf (saidIn F m es)
-        record-same = W .rests (valueOn F m (takenIn 5 es)) (saidIn F m es) (λ s n. said-is F L m es 5 s l) .0
+        record-same : F .recordOf (valueOn F m (takenOn 5 es)) ≡ F .recordOf (saidIn F m es)
+        record-same = W .rests (valueOn F m (takenOn 5 es)) (saidIn F m es) (λ s n. said-is F L m es 5 s l) .0
 
-        rules-same : rulesOf F (valueOn F m (takenIn 5 es)) ≡ rulesOf F (saidIn F m es)
+        rules-same : rulesOf F (valueOn F m (takenOn 5 es)) ≡ rulesOf F (saidIn F m es)
         unfolding rulesOf
         rules-same =
-            ap (F .readRules (valueOn F m (takenIn 5 es))) record-same
-            ∙ W .rests (valueOn F m (takenIn 5 es)) (saidIn F m es) (λ s n. said-is F L m es 5 s l) .1 (F .recordOf (saidIn F m es))
+            ap (F .readRules (valueOn F m (takenOn 5 es))) record-same
+            ∙ W .rests (valueOn F m (takenOn 5 es)) (saidIn F m es) (λ s n. said-is F L m es 5 s l) .1 (F .recordOf (saidIn F m es))
 
-        module _ (b : bodyOf F m ≡ taken (takenIn 5 es)) where
-          body-rules : rulesOf F (valueOn F m (takenOf (bodyOf F m))) ≡ rulesOf F (saidIn F m es)
-          unfolding takenOf
+        module _ (b : bodyOf F m ≡ taken (takenOn 5 es)) where
+          body-rules : rulesOf F (valueOn F m (takenIn (bodyOf F m))) ≡ rulesOf F (saidIn F m es)
+          unfolding takenIn
           body-rules = rw b rules-same
 
-          body-values : bodyPass (F .slotOf) (bodyOf F m) ≡ valuesPass (F .slotOf) (takenIn 5 es)
+          body-values : bodyPass (F .slotOf) (bodyOf F m) ≡ valuesPass (F .slotOf) (takenOn 5 es)
           unfolding bodyPass
           body-values = rw b
 
           pub record-said : verdictOf F m .number ≡ 0 → readOf F m ≡ record { number = 0; line = verdictOf F m .line; held = F .recordOf (saidIn F m es) }
-          unfolding readOf reading takenOf
+          unfolding readOf reading takenIn
           record-said z = rw (z, b, record-same)
 
       -- an accepted message has line 0, since the rules never say another
       pub accepted-line : (m : List ℕ) → verdictOf F m .number ≡ 0 → verdictOf F m .line ≡ 0
-      unfolding verdictOf rulesOf
-      accepted-line m z =
-          let (p, k) = then-zero (passOf (tableOf (F .tree)) (F .slotOf) (F .header) m) _ z in
-          ap (λ (v : Verdict). v .line) (then-next (passOf (tableOf (F .tree)) (F .slotOf) (F .header) m) _ p) ∙ W .rules-line _ _
+      unfolding rulesOf
+      accepted-line m z = ap (λ (v : Verdict). v .line) (passes-to m (passes-from m z)) ∙ W .rules-line _ _
 
       -- a message is accepted exactly when it is lawful
       pub accepted-lawful : (m : List ℕ) → verdictOf F m .number ≡ 0 → Lawful F m
-      unfolding verdictOf
       accepted-lawful m z =
-          let (q, k) = then-zero (passOf (tableOf (F .tree)) (F .slotOf) (F .header) m) _ z in
-          let p = passes-from m q in
+          let p = passes-from m z in
           let t = told m (cut m (p .text) (p .head)) (p .body) in
           record {
             text = p .text;
@@ -199,22 +166,24 @@ module _ (F : Format) where
             laid = t .laid;
             lines = t .lines;
             valued = t .valued;
-            rules = ap (λ (x : Verdict). x .number) (sym (body-rules m (t .sheet) (t .laid) (t .body))) ∙ k;
+            rules = ap (λ (x : Verdict). x .number) (sym (body-rules m (t .sheet) (t .laid) (t .body))) ∙ p .rules;
           }
 
       pub lawful-accepted : (m : List ℕ) → Lawful F m → verdictOf F m .number ≡ 0
-      unfolding verdictOf pass refused
+      unfolding pass refused
       lawful-accepted m w =
           let es = w .sheet in
           let l = w .laid in
           let b = body-taken m es l (w .lines) in
           let number : Verdict → ℕ = λ v. v .number in
-          then-both (passOf (tableOf (F .tree)) (F .slotOf) (F .header) m) _
+          let rules : number (rulesOf F (valueOn F m (takenIn (bodyOf F m)))) ≡ 0 = ap number (body-rules m es l b) ∙ w .rules in
+          ap number
           (passes-to m
           (record {
             text = w .text;
             head = w .head;
             nest = sheet-nests m es l (w .lines) (w .valued);
             body = ap number (body-values m es l b ∙ values-pass F es 5 (w .valued));
+            rules = rules;
           }))
-          (ap number (body-rules m es l b) ∙ w .rules)
+          ∙ rules

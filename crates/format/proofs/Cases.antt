@@ -9,14 +9,14 @@ use Rattle.amount.specs.Amounts as Amounts
 use Rattle.digits.specs.Numerals.{numeralFrom, numeral}
 use Rattle.blocks.specs.Blocks.{isTagged, nameOf, named, roleOf, ending, opening, closing, turn, follow, nest, nestPass}
 use Rattle.forms.specs.Forms.{wordAt, isWord, unless, formNumber, valueNumber}
-use Rattle.layout.specs.Layout.{fits, isSeen, lacks, beneath, against, look, onward, scan, stepOf, withTaken, marked, behind, runOf, layoutOf}
-use Rattle.sheets.specs.Trees.{fieldRows, memberRows, rowsIn, tableOf}
+use Rattle.layout.specs.Layout.{withTaken}
+use Rattle.sheets.specs.Trees.{chain}
 use Rattle.sheets.specs.Slots.{fieldSlots, ownSlots, memberSlots, slotsOf, firstSlots, mustSlots}
-use Rattle.sheets.specs.Sheets.{lineOf, linesIn, has}
+use Rattle.sheets.specs.Sheets.{lineOf, linesIn, has, lacking}
+use Rattle.sheets.specs.Taking.{fit, next, seek, laterField, tell, moveOf, following, walk, takenBy}
 use Rattle.sheets.specs.Filled.{some, anyField, anyMember, anyIn, filledFields, filledMembers, filled}
 use Rattle.walk.specs.Walk.{valueVerdict, valuesPass, bodyPass, takenIn, valueFrom}
 use Rattle.reader.specs.Header.{headVerdict, headPass, headValue}
-use Rattle.reader.specs.Take.{passOf}
 use Rattle.format.specs.Format.{every, optional}
 use Rattle.format.specs.Reading.{reading, bodyOf, valueOn, rulesOf, verdictOf, readOf}
 use Rattle.format.specs.Writing.{behindIn, headLine, linesFor, messageOf, judgeOf}
@@ -25,7 +25,7 @@ use Rattle.format.specs.Specimen as Specimen
 use Rattle.format.specs.Cases.{records, outside, refusals, Answered}
 
 pub answered : Answered
-unfolding bytes begins same before isBetween isDigit isUpper isC inClass allIn inFront cutBehind bare withoutEnding linesOf ended joined sizePass mayStand bytePass endPass linesPass refused pass then when Amounts.whole Amounts.decimals Amounts.isAmount Amounts.trimmed Amounts.joined Amounts.shortened Amounts.tidy Amounts.valueFrom Amounts.valueOf Amounts.amountRead numeralFrom numeral isTagged nameOf named roleOf ending opening closing turn follow nest nestPass isCode wordAt isWord unless formNumber valueNumber fits isSeen lacks beneath against look onward scan stepOf withTaken marked behind runOf layoutOf fieldRows memberRows rowsIn tableOf fieldSlots ownSlots memberSlots slotsOf firstSlots mustSlots lineOf linesIn has some anyField anyMember anyIn filledFields filledMembers filled valueVerdict valuesPass bodyPass takenIn valueFrom headVerdict headPass headValue passOf every optional reading bodyOf valueOn rulesOf verdictOf readOf behindIn headLine linesFor messageOf judgeOf tidied Specimen.slots Specimen.slotOf Specimen.header Specimen.general Specimen.commission Specimen.settlement Specimen.status Specimen.tree Specimen.named Specimen.recordOf Specimen.beside Specimen.valueOf Specimen.alike Specimen.isFilled Specimen.together Specimen.inForm records outside refusals
+unfolding bytes begins same before isBetween isDigit isUpper isC inClass allIn inFront cutBehind bare withoutEnding linesOf ended joined sizePass mayStand bytePass endPass linesPass refused pass then when Amounts.whole Amounts.decimals Amounts.isAmount Amounts.trimmed Amounts.joined Amounts.shortened Amounts.tidy Amounts.valueFrom Amounts.valueOf Amounts.amountRead numeralFrom numeral isTagged nameOf named roleOf ending opening closing turn follow nest nestPass isCode wordAt isWord unless formNumber valueNumber withTaken fit next seek laterField tell moveOf following walk takenBy chain lacking fieldSlots ownSlots memberSlots slotsOf firstSlots mustSlots lineOf linesIn has some anyField anyMember anyIn filledFields filledMembers filled valueVerdict valuesPass bodyPass takenIn valueFrom headVerdict headPass headValue every optional reading bodyOf valueOn rulesOf verdictOf readOf behindIn headLine linesFor messageOf judgeOf tidied Specimen.slots Specimen.slotOf Specimen.header Specimen.general Specimen.commission Specimen.settlement Specimen.status Specimen.tree Specimen.named Specimen.recordOf Specimen.beside Specimen.valueOf Specimen.alike Specimen.isFilled Specimen.together Specimen.inForm records outside refusals
 answered =
     record {
       in-form = refl;

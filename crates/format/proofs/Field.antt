@@ -17,9 +17,10 @@ use Rattle.layout.specs.Layout.{Taken, taken}
 use Rattle.forms.specs.Forms.{valueNumber}
 use Rattle.sheets.specs.Trees.{tableOf}
 use Rattle.sheets.specs.Slots.{slotsOf}
-use Rattle.sheets.specs.Sheets.{Entry, edge, held, come, has, takenIn as takenOf}
+use Rattle.sheets.specs.Sheets.{Entry, edge, held, come, has}
 use Rattle.sheets.specs.Filled.{valueIn}
 use Rattle.text.proofs.Bools.{is-false, or-one, or-left, or-right, or-case}
+use Rattle.sheets.proofs.Accepts.{takenOn}
 use Rattle.sheets.proofs.Emits.{come-more}
 use Rattle.sheets.proofs.Once.{slotsHeld}
 use Rattle.sheets.proofs.Musts.{come-held}
@@ -33,6 +34,7 @@ use Rattle.format.specs.Lawful.{saidIn, Lawful}
 use Rattle.format.specs.Field.{nowhere, asked, lineFor, frontOf, fieldOf, spanIn, Finding}
 use Rattle.format.proofs.Laws.{Layout, Laws}
 use Rattle.format.proofs.Said.{valued-at}
+use Rattle.format.proofs.Rows.{rows-body}
 use Rattle.format.proofs.Accepting.{body-taken}
 use Rattle.format.proofs.Holds.{not-header}
 use Rattle.format.proofs.Demands.{demands}
@@ -44,19 +46,19 @@ pub record Fields (F : Format) : Type 0 where
 
 -- ---- the lines of a sheet that were taken
 
-value-taken : (es : List Entry) (n slot : ℕ) → takenFor slot (takenOf n es) .value ≡ valueIn es slot
-unfolding takenFor takenOf valueIn noLine
+value-taken : (es : List Entry) (n slot : ℕ) → takenFor slot (takenOn n es) .value ≡ valueIn es slot
+unfolding takenFor takenOn valueIn noLine
 value-taken [] n slot = refl
 value-taken (edge o ∷ es) n slot = value-taken es (suc n) slot
 value-taken (held i k v ∷ es) n slot = go (eqb i slot) (value-taken es (suc n) slot)
   where
-    go : (b : Bool) → takenFor slot (takenOf (suc n) es) .value ≡ valueIn es slot
-        → cond b (record { slot = i; line = n; value = v }) (takenFor slot (takenOf (suc n) es)) .value ≡ cond b v (valueIn es slot)
+    go : (b : Bool) → takenFor slot (takenOn (suc n) es) .value ≡ valueIn es slot
+        → cond b (record { slot = i; line = n; value = v }) (takenFor slot (takenOn (suc n) es)) .value ≡ cond b v (valueIn es slot)
     go true e = refl
     go false e = e
 
-none-taken : (es : List Entry) (n slot : ℕ) → has (slotsHeld es) slot ≡ false → takenFor slot (takenOf n es) ≡ noLine
-unfolding takenFor takenOf slotsHeld has
+none-taken : (es : List Entry) (n slot : ℕ) → has (slotsHeld es) slot ≡ false → takenFor slot (takenOn n es) ≡ noLine
+unfolding takenFor takenOn slotsHeld has
 none-taken [] n slot h = refl
 none-taken (edge o ∷ es) n slot h = none-taken es (suc n) slot h
 none-taken (held i k v ∷ es) n slot h = rw (or-left (eqb i slot) _ h) (none-taken es (suc n) slot (or-right (eqb i slot) _ h))
@@ -113,11 +115,10 @@ module _ (F : Format) where
   module _ (L : Layout F) (W : Laws F) where
     -- the reading has taken all lines, so the first that a search meets for the slot is the slot's
     pub line-found : (m : List ℕ) (slot : ℕ) → asked F m slot ≡ true → foundOf (tableOf (F .tree)) m slot ≡ lineFor F m slot
-    unfolding bodyOf
     line-found m slot h =
         let w = demands F L W .accepts-lawful m .0 (accepted m slot h) in
         let b = body-taken F L m (w .sheet) (w .laid) (w .lines) in
-        found-laid (tableOf (F .tree)) m slot (takenOf 5 (w .sheet)) b ∙ line-is m slot h (takenOf 5 (w .sheet)) b
+        found-laid (tableOf (F .tree)) m slot (takenOn 5 (w .sheet)) (rows-body F (L .good) m ∙ b) ∙ line-is m slot h (takenOn 5 (w .sheet)) b
 
     -- so a search finds the field
     pub span-found : (m : List ℕ) (slot : ℕ) → asked F m slot ≡ true → spanOf (tableOf (F .tree)) m slot (frontOf F slot) ≡ spanIn F m slot
@@ -138,8 +139,8 @@ module _ (F : Format) where
         number-is : readOf F m .number ≡ 0
         number-is = demands F L W .accepts-lawful m .1 w
 
-        lawful-line : takenFor slot (takenOf 5 (w .sheet)) ≡ lineFor F m slot
-        lawful-line = line-is m slot (asked-of m slot number-is named) (takenOf 5 (w .sheet)) (body-taken F L m (w .sheet) (w .laid) (w .lines))
+        lawful-line : takenFor slot (takenOn 5 (w .sheet)) ≡ lineFor F m slot
+        lawful-line = line-is m slot (asked-of m slot number-is named) (takenOn 5 (w .sheet)) (body-taken F L m (w .sheet) (w .laid) (w .lines))
 
         lawful-field : fieldOf F m slot ≡ drop (frontOf F slot) (valueIn (w .sheet) slot)
         unfolding fieldOf

@@ -22,11 +22,11 @@ use Rattle.sheets.proofs.Order.{value-absent}
 use Rattle.sheets.proofs.Musts.{musts}
 use Rattle.sheets.proofs.Settled.{sheet-settles}
 use Rattle.reader.specs.Header.{headPass, headValue}
-use Rattle.format.specs.Format.{Format, everySlot, optional}
+use Rattle.format.specs.Format.{Format, optional}
 use Rattle.format.specs.Lawful.{Valued, saidIn}
 use Rattle.format.specs.Writing.{behindIn}
 use Rattle.format.proofs.Tests.{every-at, no-length}
-use Rattle.format.proofs.Laws.{Layout, Filled, Held}
+use Rattle.format.proofs.Laws.{everySlot, Layout, Filled, Held}
 use Rattle.format.proofs.Heads.{Heads, heads-from, head-good}
 use Rattle.format.proofs.Said.{valued-at}
 

@@ -12,10 +12,10 @@ use Rattle.text.specs.Bytes.{bytes}
 use Rattle.forms.specs.Forms.{valueNumber}
 use Rattle.sheets.specs.Sheets.{has}
 use Rattle.sheets.specs.Slots.{slotsOf}
-use Rattle.sheets.specs.Plain.{Group, groupsOf}
-use Rattle.sheets.proofs.Checks.{goodTree, apart, free, withTree, once, disjoint, distinct, sole, tellable, complete, solid}
+use Rattle.sheets.specs.Plain.{Group}
+use Rattle.sheets.proofs.Checks.{goodTree, apart, free, withTree, once, disjoint, distinct, sole, groupsOf, tellable, complete, solid}
 use Rattle.sheets.proofs.Ends.{lastLine}
-use Rattle.format.specs.Format.{Format, everySlot, optional}
+use Rattle.format.specs.Format.{Format, optional}
 use Rattle.format.specs.Reading.{rulesOf}
 use Rattle.format.specs.Writing.{behindIn, messageOf, judgeOf}
 use Rattle.format.proofs.Nests.{nestable}
@@ -30,6 +30,11 @@ edges (g ∷ gs) = g .opening ∷ g .closing ∷ edges gs
 
 unfoldable pub strangers : Format → List (List ℕ)
 strangers F = bytes "-" ∷ (edges (F .groups) ++ F .fronts)
+
+-- all slots of a message
+module _ (F : Format) where
+  unfoldable pub everySlot : List ℕ
+  everySlot = F .header ++ slotsOf (F .tree)
 
 -- ---- the layout
 

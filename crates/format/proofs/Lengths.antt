@@ -14,10 +14,10 @@ use Rattle.lines.specs.Lines.{joined}
 use Rattle.forms.proofs.Widths.{formWidth, bounded, form-width}
 use Rattle.sheets.specs.Sheets.{linesIn, has}
 use Rattle.sheets.specs.Filled.{filled}
-use Rattle.format.specs.Format.{Format, everySlot, optional}
+use Rattle.format.specs.Format.{Format, optional}
 use Rattle.format.specs.Writing.{behindIn, headLine, linesFor, messageOf}
 use Rattle.format.proofs.Tests.{every, every-at, number-form}
-use Rattle.format.proofs.Laws.{Filled, Held}
+use Rattle.format.proofs.Laws.{everySlot, Filled, Held}
 use Rattle.format.proofs.Grows.{joined-next, grows}
 
 module _ (F : Format) where

@@ -4,6 +4,7 @@ pub mod Prints
 pub mod Laws
 pub mod Heads
 pub mod Said
+pub mod Rows
 pub mod Accepting
 pub mod Holds
 pub mod Round

@@ -1,9 +1,9 @@
 -- The numbers that an answer of any message type can have: each pass has its own, and the first pass that refuses decides.
 -- Assumes nothing.
-use Prim.Native.Nat.{ℕ, suc, _≤_, _+_, _-_}
+use Prim.Native.Nat.{ℕ, suc, _≤_}
 use native.Mathlib.Omega.{arith}
 use mathlib.Core.Path.{_≡_, refl}
-use mathlib.Core.Bool.{Bool, true, false, _&&_, _||_, not, cond}
+use mathlib.Core.Bool.{Bool, true, false, _&&_, not, cond}
 use mathlib.Core.List.{List, [], _∷_}
 use lib.Dec.{leb, ltb, eqb}
 use lib.ListN.{length, drop, getD}
@@ -21,19 +21,13 @@ use Rattle.calendar.specs.declared.MomentRead.{MomentRead}
 use Rattle.forms.specs.Forms.{Form, nothing, codes, words, amount, date, moment, narrative, other, Slot, isWord, unless, formNumber, valueNumber}
 use Rattle.text.specs.Classes.{isCode}
 use Rattle.forms.specs.Narrative.{isNarrative}
-use Rattle.layout.specs.Rows.{Row, field, opens, closes, many, mark, back, ends}
-use Rattle.layout.specs.Layout.{Taken, Run, refusedAt, taken, fits, isSeen, lacks, beneath, against, look, onward, scan, stepOf, withTaken, marked, behind, runOf, layoutOf}
-use Rattle.layout.specs.declared.Place.{Place}
-use Rattle.layout.specs.declared.Step.{Step}
-use Rattle.layout.specs.declared.Look.{Look}
-use Rattle.layout.specs.declared.Look.the-variants.{Decided, Further}
-use Rattle.sheets.specs.Trees.{tableOf}
+use Rattle.layout.specs.Layout.{Taken, Run, refusedAt, taken}
+use Rattle.sheets.proofs.Moves.{NumberedRun, numbered}
 use Rattle.text.proofs.Bools.{of-both}
 use Rattle.walk.specs.Walk.{valueVerdict, valuesPass, bodyPass}
 use Rattle.reader.specs.Header.{headVerdict, headPass}
-use Rattle.reader.specs.Take.{passOf}
 use Rattle.format.specs.Format.{Format}
-use Rattle.format.specs.Reading.{rulesOf, verdictOf}
+use Rattle.format.specs.Reading.{bodyOf, rulesOf, verdictOf}
 use Rattle.format.specs.Writing.{messageOf, judgeOf, writeNumber}
 use Rattle.format.specs.Plain.{plainOf}
 use Rattle.format.specs.Asking.{roomPass, askVerdict}
@@ -123,73 +117,6 @@ nest-few n blocks [] = few _ _ refl
 nest-few n blocks (l ∷ ls) =
     follow-few n (turn (roleOf l) blocks (nameOf l)) (λ next. nest (suc n) next ls) (turn-few l blocks) (λ next. nest-few (suc n) next ls)
 
--- ---- 8 and 9
-
-abbrev FewStep : Step → Type 0
-FewStep step = step .number ≤ 12
-
-abbrev FewLook : Look → Type 0
-FewLook (Decided step) = FewStep step
-FewLook (Further deep unmarked passed) = Unit
-
-fits-few : (here : Place) (passed : Bool) (step : Step) → FewStep step → FewStep (fits here passed step)
-unfolding fits
-fits-few here passed step h = either FewStep passed (few _ _ refl) h
-
-beneath-few : (here : Place) (line : List ℕ) (deep : ℕ) (u p : Bool) (r : Row) → FewLook (beneath here line deep u p r)
-unfolding beneath
-beneath-few here line deep u p (field m s k) = either FewLook (u && (eqb deep 1 && begins k line)) (few _ _ refl) tt
-beneath-few here line deep u p (opens m o) = tt
-beneath-few here line deep u p (closes c) = tt
-beneath-few here line deep u p (many n a o) = tt
-beneath-few here line deep u p (mark s k) = tt
-beneath-few here line deep u p (back c) = either FewLook (u && (eqb deep 1 && same c line)) (few _ _ refl) tt
-beneath-few here line deep u p ends = tt
-
-against-few : (here : Place) (seen line : List ℕ) (row : ℕ) (rows : List Row) (u p : Bool) (r : Row) → FewLook (against here seen line row rows u p r)
-unfolding against
-against-few here seen line row rows u p (field m s k) = either FewLook (begins k line) (fits-few here p _ (few _ _ refl)) tt
-against-few here seen line row rows u p (opens m o) = either FewLook (same o line) (fits-few here p _ (few _ _ refl)) tt
-against-few here seen line row rows u p (closes c) = either FewStep (same c line) (fits-few here p _ (few _ _ refl)) (few _ _ refl)
-against-few here seen line row rows u p (many n a o) =
-    either FewLook (same o line && (a || lacks seen rows)) (fits-few here p _ (few _ _ refl)) tt
-against-few here seen line row rows u p (mark s k) =
-    either FewLook (begins k line) (either FewStep (isSeen seen s) (few _ _ refl) (fits-few here p _ (few _ _ refl))) tt
-against-few here seen line row rows u p (back c) = either FewStep (same c line) (fits-few here p _ (few _ _ refl)) (few _ _ refl)
-against-few here seen line row rows u p ends = few _ _ refl
-
-onward-few : (l : Look) (rest : ℕ → Bool → Bool → Step) → FewLook l → ((d : ℕ) (u p : Bool) → FewStep (rest d u p)) → FewStep (onward l rest)
-unfolding onward
-onward-few (Decided step) rest h k = h
-onward-few (Further d u p) rest h k = k d u p
-
-scan-few : (here : Place) (seen line : List ℕ) (row : ℕ) (rows : List Row) (deep : ℕ) (u p : Bool) → FewStep (scan here seen line row rows deep u p)
-unfolding scan look
-scan-few here seen line row [] deep u p = few _ _ refl
-scan-few here seen line row (r ∷ rows) deep u p =
-    onward-few (look here seen line row rows deep u p r) _
-    (either FewLook (eqb deep 0) (against-few here seen line row rows u p r) (beneath-few here line deep u p r))
-    (λ d u' p'. scan-few here seen line (row + 1) rows d u' p')
-
-abbrev FewRun : Run → Type 0
-FewRun (refusedAt number line) = number ≤ 12
-FewRun (taken ts) = Unit
-
-with-few : (t : Taken) (run : Run) → FewRun run → FewRun (withTaken t run)
-unfolding withTaken
-with-few t (refusedAt number line) h = h
-with-few t (taken ts) h = tt
-
-run-few : (rows : List Row) (here : Place) (seen : List ℕ) (n : ℕ) (ls : List (List ℕ)) → FewRun (runOf rows here seen n ls)
-unfolding runOf behind stepOf
-run-few rows here seen n [] = tt
-run-few rows here seen n (l ∷ ls) =
-    let step = stepOf rows here seen l in
-    let rest = run-few rows (step .place) (marked seen step) (suc n) ls in
-    either FewRun (eqb (step .number) 0)
-    (either FewRun (eqb (step .slot) 0) rest (with-few _ _ rest))
-    (scan-few here seen l (here .row) (drop (here .row) rows) 0 false false)
-
 -- ---- 10 to 12
 
 abbrev FewOf : ℕ → Type 0
@@ -234,20 +161,14 @@ values-few slotOf (t ∷ ts) =
     (either (Few 12) (eqb (valueNumber (slotOf (t .slot)) (t .value)) 0) (few _ _ refl) (number-few (slotOf (t .slot)) (t .value)))
     (values-few slotOf ts)
 
-body-few : (slotOf : ℕ → Slot) (run : Run) → FewRun run → Few 12 (bodyPass slotOf run)
+-- ---- 8 and 9, and then these
+
+body-few : (slotOf : ℕ → Slot) (run : Run) → NumberedRun run → Few 12 (bodyPass slotOf run)
 unfolding bodyPass refused
-body-few slotOf (refusedAt number line) h = h
+body-few slotOf (refusedAt number line) h = omega (arith, h .1)
 body-few slotOf (taken ts) h = values-few slotOf ts
 
 -- ---- and all of them together
-
-passes-few : (table : List Row) (slotOf : ℕ → Slot) (header m : List ℕ) → Few 12 (passOf table slotOf header m)
-unfolding passOf headPass nestPass layoutOf
-passes-few table slotOf header m =
-    then-few 12 (linesPass m) _ (lines-few m)
-    (then-few 12 (headPass slotOf header m) _ (header-few slotOf 1 header (linesOf m))
-    (then-few 12 (nestPass m) _ (nest-few 5 [] (drop 4 (linesOf m)))
-    (body-few slotOf (layoutOf table 5 (drop 4 (linesOf m))) (run-few table _ _ 5 (drop 4 (linesOf m))))))
 
 -- a rule has its number, or none
 pub when-few : (b : Bool) (n most : ℕ) → n ≤ most → Few most (when b n)
@@ -258,10 +179,14 @@ when-few false n most h = omega arith
 module _ (F : Format) where
   -- a read has a number of 1 to 12, or one of its rules'
   pub read-few : (most : ℕ) → 12 ≤ most → ((value : ℕ → List ℕ) (r : F .Held) → Few most (F .readRules value r)) → (m : List ℕ) → Few most (verdictOf F m)
-  unfolding verdictOf rulesOf
+  unfolding verdictOf rulesOf headPass nestPass bodyOf
   read-few most h k m =
-      let p = passes-few (tableOf (F .tree)) (F .slotOf) (F .header) m in
-      then-few most (passOf (tableOf (F .tree)) (F .slotOf) (F .header) m) _ (omega (arith, p)) (k _ _)
+      let up : (n : ℕ) → n ≤ 12 → n ≤ most = λ n few. omega arith in
+      then-few most (linesPass m) _ (up _ (lines-few m))
+      (then-few most (headPass (F .slotOf) (F .header) m) _ (up _ (header-few (F .slotOf) 1 (F .header) (linesOf m)))
+      (then-few most (nestPass m) _ (up _ (nest-few 5 [] (drop 4 (linesOf m))))
+      (then-few most (bodyPass (F .slotOf) (bodyOf F m)) _ (up _ (body-few (F .slotOf) (bodyOf F m) (numbered (F .tree) 5 (drop 4 (linesOf m)))))
+      (k _ _))))
 
   -- a plain form 19 besides
   pub plain-few : (most : ℕ) → 19 ≤ most → (m : List ℕ) (room : ℕ) → Few most (verdictOf F m) → Few most (askVerdict F m room)

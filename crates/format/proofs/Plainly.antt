@@ -1,6 +1,6 @@
 -- Demand 2, the plain form: writing the record of an accepted message gives the message's plain form.
 -- Assumes nothing.
-use Prim.Native.Nat.{ℕ, suc}
+use Prim.Native.Nat.{ℕ}
 use mathlib.Core.Path.{_≡_, refl, sym, ap, _∙_}
 use mathlib.Core.Bool.{Bool, true, false, _&&_, not, cond, true≢false}
 use mathlib.Core.List.{List, [], _∷_, _++_, map}
@@ -23,12 +23,12 @@ use Rattle.sheets.proofs.Once.{has-append}
 use Rattle.sheets.proofs.Order.{plain-behind}
 use Rattle.sheets.proofs.Musts.{Turned, TurnedFields, TurnedMembers, TurnedTree, turned}
 use Rattle.reader.specs.Header.{headPass}
-use Rattle.format.specs.Format.{Format, everySlot, optional}
+use Rattle.format.specs.Format.{Format, optional}
 use Rattle.format.specs.Lawful.{Valued, saidIn, Lawful}
 use Rattle.format.specs.Writing.{behindIn, headLine, linesFor, messageOf}
 use Rattle.format.specs.Plain.{tidyLine, plainLines, plainOf}
 use Rattle.format.proofs.Tests.{every, every-at, foreign, no-length, isAmountForm, tidied, tidied-same, tidied-some, tidied-none, untouched, untouched-line, tidyRow, tidyFields, tidyMembers, tidyTree, row-tidied, row-bare}
-use Rattle.format.proofs.Laws.{edges, strangers, Layout, Held, Laws}
+use Rattle.format.proofs.Laws.{edges, strangers, everySlot, Layout, Held, Laws}
 use Rattle.format.proofs.Heads.{heads-from, heads-are, heads-missing, heads-tidy}
 use Rattle.format.proofs.Said.{sheet-full}
 use Rattle.format.proofs.Accepting.{cut}

@@ -31,13 +31,13 @@ use Rattle.sheets.proofs.Solid.{full-filled}
 use Rattle.sheets.proofs.Ends.{laid-ends}
 use Rattle.sheets.proofs.Order.{none-both}
 use Rattle.reader.specs.Header.{headPass, headValue}
-use Rattle.format.specs.Format.{Format, everySlot, optional}
+use Rattle.format.specs.Format.{Format, optional}
 use Rattle.format.specs.Reading.{rulesOf, readOf}
 use Rattle.format.specs.Lawful.{Valued, saidIn, Lawful}
 use Rattle.format.specs.Writing.{behindIn, headLine, linesFor, messageOf, judgeOf}
 use Rattle.format.proofs.Tests.{every-at}
 use Rattle.format.proofs.Prints.{Printed, laid-printed, printable, good-printed}
-use Rattle.format.proofs.Laws.{Layout, Filled, Held, Laws}
+use Rattle.format.proofs.Laws.{everySlot, Layout, Filled, Held, Laws}
 use Rattle.format.proofs.Heads.{heads-written, value-written, heads-pass, heads-miss, heads-printed}
 use Rattle.format.proofs.Accepting.{no-dash, accepted-line, lawful-accepted, body-taken, record-said}
 use Rattle.format.proofs.Holds.{every-slot, not-header, behind-filled}

@@ -13,9 +13,10 @@ use Rattle.lines.specs.Lines.{linesOf}
 use Rattle.lines.proofs.Laws.{then-zero}
 use Rattle.forms.specs.Forms.{valueNumber}
 use Rattle.sheets.specs.Slots.{slotsOf}
-use Rattle.sheets.specs.Sheets.{Entry, edge, held, takenIn, has, Sheet}
+use Rattle.sheets.specs.Sheets.{Entry, edge, held, has, Sheet}
 use Rattle.sheets.specs.Filled.{some, valueIn}
 use Rattle.text.proofs.Bools.{or-one, or-two, of-both}
+use Rattle.sheets.proofs.Accepts.{takenOn}
 use Rattle.sheets.proofs.Checks.{full}
 use Rattle.sheets.proofs.Once.{apart-lists, slotsHeld, Once, inside, outside, comes-once}
 use Rattle.sheets.proofs.Order.{value-absent}
@@ -31,8 +32,8 @@ use Rattle.format.proofs.Heads.{head-none}
 module _ (F : Format) where
   -- ---- 10, 11 and 12
 
-  pub values-pass : (es : List Entry) (n : ℕ) → Valued F es → valuesPass (F .slotOf) (takenIn n es) ≡ pass
-  unfolding Valued takenIn valuesPass valueVerdict then pass refused
+  pub values-pass : (es : List Entry) (n : ℕ) → Valued F es → valuesPass (F .slotOf) (takenOn n es) ≡ pass
+  unfolding Valued takenOn valuesPass valueVerdict then pass refused
   values-pass [] n h = refl
   values-pass (edge o ∷ es) n h = values-pass es (suc n) h
   values-pass (held s k v ∷ es) n h = rw (h .0) (values-pass es (suc n) (h .1))
@@ -45,12 +46,12 @@ module _ (F : Format) where
       on true e q = eqb-true (valueNumber (F .slotOf s) v) 0 e
       on false e q = q
 
-  pub valued : (es : List Entry) (n : ℕ) → valuesPass (F .slotOf) (takenIn n es) .number ≡ 0 → Valued F es
-  unfolding Valued takenIn valuesPass
+  pub valued : (es : List Entry) (n : ℕ) → valuesPass (F .slotOf) (takenOn n es) .number ≡ 0 → Valued F es
+  unfolding Valued takenOn valuesPass
   valued [] n h = tt
   valued (edge o ∷ es) n h = valued es (suc n) h
   valued (held s k v ∷ es) n h =
-      let (a, b) = then-zero (valueVerdict (F .slotOf) (record { slot = s; line = n; value = v })) (valuesPass (F .slotOf) (takenIn (suc n) es)) h in
+      let (a, b) = then-zero (valueVerdict (F .slotOf) (record { slot = s; line = n; value = v })) (valuesPass (F .slotOf) (takenOn (suc n) es)) h in
       (verdict-zero s n v a, valued es (suc n) b)
 
   -- one value
@@ -64,8 +65,8 @@ module _ (F : Format) where
   -- ---- a value among the lines that were taken
 
   value-from : (s : ℕ) (es : List Entry) (n : ℕ) (d : List ℕ) → Once es
-      → valueFrom (F .slotOf) d s (takenIn n es) ≡ cond (has (slotsHeld es) s) (drop (length (F .slotOf s .fixed)) (valueIn es s)) d
-  unfolding valueFrom takenIn slotsHeld has valueIn Once
+      → valueFrom (F .slotOf) d s (takenOn n es) ≡ cond (has (slotsHeld es) s) (drop (length (F .slotOf s .fixed)) (valueIn es s)) d
+  unfolding valueFrom takenOn slotsHeld has valueIn Once
   value-from s [] n d h = refl
   value-from s (edge o ∷ es) n d h = value-from s es (suc n) d h
   value-from s (held i k v ∷ es) n d h = value-from s es (suc n) (cond (eqb i s) (drop (length (F .slotOf s .fixed)) v) d) (h .1) ∙ on (eqb i s) refl
@@ -91,7 +92,7 @@ module _ (F : Format) where
     sheet-full es l h = all-full es (λ s e. inside s l e) h
 
     -- the reader's values are the sheet's
-    pub said-is : (m : List ℕ) (es : List Entry) (n : ℕ) (s : ℕ) → Sheet (F .tree) es → valueOn F m (takenIn n es) s ≡ saidIn F m es s
+    pub said-is : (m : List ℕ) (es : List Entry) (n : ℕ) (s : ℕ) → Sheet (F .tree) es → valueOn F m (takenOn n es) s ≡ saidIn F m es s
     unfolding valueOn saidIn
     said-is m es n s l = value-from s es n head (comes-once l (L .is-sole)) ∙ on (has (F .header) s) refl
       where

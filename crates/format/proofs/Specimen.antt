@@ -27,10 +27,9 @@ use Rattle.sheets.specs.Trees.{chain}
 use Rattle.sheets.specs.Slots.{fieldSlots, ownSlots, memberSlots, slotsOf, firstSlots, mustSlots}
 use Rattle.sheets.specs.Sheets.{lineOf, linesIn, has}
 use Rattle.sheets.specs.Filled.{some, anyField, anyMember, anyIn, filledFields, filledMembers, filled}
-use Rattle.sheets.specs.Plain.{groupsOf, keysOf}
-use Rattle.sheets.proofs.Checks.{goodSlot, goodFields, goodMembers, goodTree, clash, avoids, noneOf, apartFields, laterApart, apartMembers, apart, freeFields, freeMembers, free, withFields, withMembers, withTree, onceMembers, once, disjoint, distinct, soleMembers, sole, allFree, closedMembers, heavy, tellable, allMembers, wholeMembers, complete, solidFields, solidMembers, solid}
+use Rattle.sheets.proofs.Checks.{keysOf, groupsOf, goodSlot, goodFields, goodMembers, goodTree, clash, avoids, noneOf, apartFields, laterApart, apartMembers, apart, freeFields, freeMembers, free, withFields, withMembers, withTree, onceMembers, once, disjoint, distinct, soleMembers, sole, allFree, closedMembers, heavy, tellable, allMembers, wholeMembers, complete, solidFields, solidMembers, solid}
 use Rattle.sheets.proofs.Ends.{lastLine}
-use Rattle.format.specs.Format.{every, mayLack, everySlot, optional}
+use Rattle.format.specs.Format.{every, mayLack, optional}
 use Rattle.format.specs.Plain.{tidied}
 use Rattle.format.specs.Writing.{behindIn, headLine, messageOf, judgeOf}
 use Rattle.format.specs.Demands.{Demands}
@@ -39,7 +38,7 @@ use Rattle.format.proofs.Tests.{every-at, every-of, number-form, no-len
 use Rattle.format.proofs.Nests.{fieldKey, opensAt, closer, fieldKeys, memberKeys, nestable}
 use Rattle.format.proofs.Prints.{fieldTexts, memberTexts, texts, printable}
 use Rattle.format.proofs.Plainly.{map-same}
-use Rattle.format.proofs.Laws.{edges, strangers, Layout, Filled, Held, Laws}
+use Rattle.format.proofs.Laws.{edges, strangers, everySlot, Layout, Filled, Held, Laws}
 use Rattle.format.proofs.Lengths.{value-width, wide, bytesOf, message-most, within, within-most}
 use Rattle.format.proofs.Demands.{demands}
 

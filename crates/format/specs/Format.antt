@@ -2,7 +2,7 @@
 -- message type is said of any of them.
 use Prim.Native.Nat.{ℕ}
 use mathlib.Core.Bool.{Bool, true, _&&_, not}
-use mathlib.Core.List.{List, [], _∷_, _++_}
+use mathlib.Core.List.{List, [], _∷_}
 use Rattle.lines.specs.declared.Verdict.{Verdict}
 use Rattle.forms.specs.Forms.{Slot}
 use Rattle.sheets.specs.Trees.{Tree}
@@ -45,10 +45,6 @@ pub record Format : Type 1 where
   pub beyond : ℕ → ℕ
 
 module _ (F : Format) where
-  -- all slots of a message
-  unfoldable pub everySlot : List ℕ
-  everySlot = F .header ++ slotsOf (F .tree)
-
   -- a slot that a message of this type may be without
   unfoldable pub optional : ℕ → Bool
   optional s = mayLack (F .tree) s

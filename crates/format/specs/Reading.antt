@@ -6,13 +6,13 @@ use mathlib.Core.List.{List, []}
 use lib.Dec.{eqb}
 use lib.ListN.{drop}
 use Rattle.lines.specs.Verdicts.{then}
-use Rattle.lines.specs.Lines.{linesOf}
+use Rattle.lines.specs.Lines.{linesOf, linesPass}
 use Rattle.lines.specs.declared.Verdict.{Verdict}
-use Rattle.layout.specs.Layout.{Taken, Run, layoutOf}
-use Rattle.sheets.specs.Trees.{tableOf}
-use Rattle.walk.specs.Walk.{takenIn, valueFrom}
-use Rattle.reader.specs.Header.{headValue}
-use Rattle.reader.specs.Take.{passOf}
+use Rattle.blocks.specs.Blocks.{nestPass}
+use Rattle.layout.specs.Layout.{Taken, Run}
+use Rattle.sheets.specs.Taking.{takenBy}
+use Rattle.walk.specs.Walk.{bodyPass, takenIn, valueFrom}
+use Rattle.reader.specs.Header.{headPass, headValue}
 use Rattle.format.specs.Format.{Format}
 
 -- what a read answers: 0 and the record, or a number and a line with the blank record beside them
@@ -25,9 +25,9 @@ unfoldable pub reading : {Held : Type 0} → Held → Verdict → Held → Read 
 reading blank v r = record { number = v .number; line = v .line; held = cond (eqb (v .number) 0) r blank }
 
 module _ (F : Format) where
-  -- the lines behind the header against the layout
+  -- the lines behind the header, as the layout takes them
   unfoldable pub bodyOf : List ℕ → Run
-  bodyOf m = layoutOf (tableOf (F .tree)) 5 (drop 4 (linesOf m))
+  bodyOf m = takenBy (F .tree) 5 (drop 4 (linesOf m))
 
   -- the value of a slot, with the lines that were taken for slots: what follows the fixed text on its line, or on its line of the
   -- header; nothing where there is none
@@ -38,11 +38,15 @@ module _ (F : Format) where
   unfoldable pub rulesOf : (ℕ → List ℕ) → Verdict
   rulesOf value = F .readRules value (F .recordOf value)
 
-  -- 1 to 12, and then the rules
+  -- the order of reading: 1, 2, 3; 4; 5, 6, 7; 8, 9 and then 10, 11, 12; the rules
   unfoldable pub verdictOf : List ℕ → Verdict
   verdictOf m =
       let value = valueOn m (takenIn (bodyOf m)) in
-      then (passOf (tableOf (F .tree)) (F .slotOf) (F .header) m) (rulesOf value)
+      then (linesPass m)
+      (then (headPass (F .slotOf) (F .header) m)
+      (then (nestPass m)
+      (then (bodyPass (F .slotOf) (bodyOf m))
+      (rulesOf value))))
 
   unfoldable pub readOf : List ℕ → Read (F .Held)
   readOf m = reading (F .blank) (verdictOf m) (F .recordOf (valueOn m (takenIn (bodyOf m))))

@@ -1,10 +1,10 @@
--- What callers cite: the rows of a table's bytes one by one, a run one line further, and that a line is at least as long as
--- the text of the slot that it is taken for.
+-- What callers cite: the rows of a table's bytes one by one, a run one line further or behind lines that were taken, and that a line is
+-- at least as long as the text of the slot that it is taken for.
 -- Assumes nothing.
 use Prim.Native.Nat.{ℕ, zero, suc, _+_, _*_, _/_, _%_, _≤_, _<_}
 use mathlib.Core.Path.{_≡_, refl, ap, _∙_}
 use mathlib.Core.Bool.{Bool, true, false, _&&_, _||_}
-use mathlib.Core.List.{List, [], _∷_, map}
+use mathlib.Core.List.{List, [], _∷_, _++_, map}
 use native.Mathlib.Nat.{add-zero}
 use native.Mathlib.Omega.{arith}
 use lib.Dec.{eqb}
@@ -15,7 +15,7 @@ use Rattle.text.specs.Bytes.{begins, same, parts}
 use Rattle.text.proofs.Bools.{of-both}
 use Rattle.text.proofs.Laws.{begins-is, parts-from, length-parts}
 use Rattle.layout.specs.Rows.{Row, field, opens, closes, many, mark, back, ends, rowOf, keyOf, textAt, firstRow, rowsOf}
-use Rattle.layout.specs.Layout.{fits, lacks, isSeen, against, beneath, look, onward, scan, stepOf, marked, behind, runOf}
+use Rattle.layout.specs.Layout.{fits, lacks, isSeen, against, beneath, look, onward, scan, stepOf, Taken, Run, refusedAt, taken, withTaken, marked, behind, runOf}
 use Rattle.layout.specs.declared.Place.{Place}
 use Rattle.layout.specs.declared.Step.{Step}
 use Rattle.layout.specs.declared.Look.{Look}
@@ -70,6 +70,31 @@ pub run-next : (table : List Row) (here : Place) (seen : List ℕ) (n : ℕ) (l 
     (runOf table ((stepOf table here seen l) .place) (marked seen (stepOf table here seen l)) (suc n) ls)
 unfolding runOf
 run-next table here seen n l ls = refl
+
+-- ---- some lines that were taken, and then a run
+
+unfoldable pub withAll : List Taken → Run → Run
+withAll [] run = run
+withAll (t ∷ ts) run = withTaken t (withAll ts run)
+
+pub all-refused : (ts : List Taken) (number line : ℕ) → withAll ts (refusedAt number line) ≡ refusedAt number line
+unfolding withAll withTaken
+all-refused [] number line = refl
+all-refused (t ∷ ts) number line = ap (withTaken t) (all-refused ts number line)
+
+pub all-none : (ts : List Taken) → withAll ts (taken []) ≡ taken ts
+unfolding withAll withTaken
+all-none [] = refl
+all-none (t ∷ ts) = ap (withTaken t) (all-none ts)
+
+pub all-append : (ts us : List Taken) (run : Run) → withAll (ts ++ us) run ≡ withAll ts (withAll us run)
+unfolding withAll
+all-append [] us run = refl
+all-append (t ∷ ts) us run = ap (withTaken t) (all-append ts us run)
+
+pub all-more : (ts : List Taken) (t : Taken) (run : Run) → withAll (ts ++ t ∷ []) run ≡ withAll ts (withTaken t run)
+unfolding withAll
+all-more ts t run = all-append ts (t ∷ []) run
 
 -- ---- a line is at least as long as the text of the slot that it is taken for
 

@@ -1,6 +1,6 @@
--- Document 01, the numbers 8 and 9: each line of a message is held against the rows still ahead of it.
---   8  the line fits no slot from here on in its block, or a qualifier of blocks in any order comes twice
---   9  the line fits a later slot, but a mandatory one was passed over
+-- How the code walks rows: each line of a message is held against the rows still ahead of it. This is a step of the code. What 8 and 9
+-- are is said over the tree of a message type, in sheets' specs/Taking, and for the table of a tree the two come to the same (sheets,
+-- proofs/Rows). `Taken` and `Run`, what lines come to, are the words of both.
 use Prim.Native.Nat.{ℕ, suc, _+_, _-_}
 use mathlib.Core.Bool.{Bool, true, false, _&&_, _||_, not, cond}
 use mathlib.Core.List.{List, [], _∷_}

@@ -20,7 +20,8 @@ use Rattle.forms.proofs.Widths.{formWidth, bounded}
 use Rattle.sheets.specs.Slots.{fieldSlots, ownSlots, memberSlots, slotsOf, firstSlots, mustSlots}
 use Rattle.sheets.specs.Sheets.{lineOf, linesIn, has}
 use Rattle.sheets.specs.Filled.{some, anyField, anyMember, anyIn, filledFields, filledMembers, filled}
-use Rattle.format.specs.Format.{everySlot, optional}
+use Rattle.format.specs.Format.{optional}
+use Rattle.format.proofs.Laws.{everySlot}
 use Rattle.format.specs.Writing.{headLine, behindIn}
 use Rattle.format.proofs.Tests.{every}
 use Rattle.format.proofs.Lengths as Any

@@ -8,8 +8,9 @@ use lib.ListN.{getD}
 use borrow.Author.Tests.{eqb-false}
 use Rattle.format.specs.Reading as Any
 use Rattle.reader.specs.Header.{headVerdict, headPass, headValue}
-use Rattle.reader.specs.Take.{passOf}
-use Rattle.sheets.specs.Trees.{fieldRows, memberRows, rowsIn, tableOf}
+use Rattle.sheets.specs.Trees.{chain}
+use Rattle.sheets.specs.Sheets.{has, lacking}
+use Rattle.sheets.specs.Taking.{fit, next, seek, laterField, tell, moveOf, following, walk, takenBy}
 use Rattle.mt515.specs.Cases.{b, ended, without, with, behind, exchanged, cases, Unlike, AllUnlike, Answered}
 use Rattle.values.specs.Cases.{b as tradeOfB}
 use Rattle.mt515.specs.Reading.{readOf}
@@ -19,7 +20,7 @@ use Rattle.walk.specs.Walk.{bodyPass, takenIn, valueVerdict, valuesPass, valueF
 use Rattle.lines.specs.Lines.{inFront, cutBehind, bare, withoutEnding, linesOf, ended as ended-lines, sizePass, mayStand, bytePass, endPass, linesPass, lineAt}
 use Rattle.lines.specs.Verdicts.{refused, pass, then, when}
 use Rattle.blocks.specs.Blocks.{isTagged, nameOf, named, roleOf, ending, opening, closing, turn, follow, nest, nestPass}
-use Rattle.layout.specs.Layout.{fits, isSeen, lacks, beneath, against, look, onward, scan, stepOf, withTaken, marked, behind as behind-layout, runOf, layoutOf}
+use Rattle.layout.specs.Layout.{withTaken}
 use Rattle.forms.specs.Forms.{wordAt, isWord, unless, formNumber, valueNumber}
 use Rattle.forms.specs.Narrative.{serviceIn, hasPeriod, periodIn, behindPeriod, hasReason, reasonIn, goodPeriod, goodReason, isNarrative}
 use Rattle.trade.specs.Narrative.{serviceOf, periodOf}
@@ -44,7 +45,7 @@ second : Trade → ℕ
 second t = getD (t .mast .bytes) 1 0
 
 pub answered : Answered
-unfolding long second Any.reading Any.bodyOf Any.valueOn Any.rulesOf Any.verdictOf Any.readOf headVerdict headPass headValue passOf fieldRows memberRows rowsIn tableOf bodyPass takenIn b ended without with behind exchanged cases Unlike AllUnlike tradeOfB readOf general pool details tree slots header slotOf valueVerdict valuesPass valueFrom inFront cutBehind bare withoutEnding linesOf ended-lines sizePass mayStand bytePass endPass linesPass lineAt refused pass then isTagged nameOf named roleOf ending opening closing turn follow nest nestPass fits isSeen lacks beneath against look onward scan stepOf withTaken marked behind-layout runOf layoutOf isCode wordAt isWord unless formNumber valueNumber serviceIn hasPeriod periodIn behindPeriod hasReason reasonIn goodPeriod goodReason isNarrative serviceOf periodOf kindIn sideIn partyOf tradeOf nobody never blankTrade other own contra stray functionOf lacksField tddkOnly tddkNever hasForbidden when recordPass kindsPass year month day leap lengths monthLength isDate isTime earlier isMoment dateFrom dateRead momentOf momentFrom momentRead dateText momentText whole decimals isAmount trimmed joined shortened tidy valueFrom-amounts valueOf amountRead inForm spread amountText partsRead noughts numeralFrom numeral digits numberOf-numerals fixedOf tenTo bytes begins same before parts isBetween isDigit isUpper isC inClass allIn contents textOf inForm-texts
+unfolding long second Any.reading Any.bodyOf Any.valueOn Any.rulesOf Any.verdictOf Any.readOf headVerdict headPass headValue bodyPass takenIn b ended without with behind exchanged cases Unlike AllUnlike tradeOfB readOf general pool details tree slots header slotOf valueVerdict valuesPass valueFrom inFront cutBehind bare withoutEnding linesOf ended-lines sizePass mayStand bytePass endPass linesPass lineAt refused pass then isTagged nameOf named roleOf ending opening closing turn follow nest nestPass withTaken fit next seek laterField tell moveOf following walk takenBy chain has lacking isCode wordAt isWord unless formNumber valueNumber serviceIn hasPeriod periodIn behindPeriod hasReason reasonIn goodPeriod goodReason isNarrative serviceOf periodOf kindIn sideIn partyOf tradeOf nobody never blankTrade other own contra stray functionOf lacksField tddkOnly tddkNever hasForbidden when recordPass kindsPass year month day leap lengths monthLength isDate isTime earlier isMoment dateFrom dateRead momentOf momentFrom momentRead dateText momentText whole decimals isAmount trimmed joined shortened tidy valueFrom-amounts valueOf amountRead inForm spread amountText partsRead noughts numeralFrom numeral digits numberOf-numerals fixedOf tenTo bytes begins same before parts isBetween isDigit isUpper isC inClass allIn contents textOf inForm-texts
 answered = (
   refl,
   refl,

@@ -15,19 +15,21 @@ use Rattle.sheets.specs.Sheets.{has}
 use Rattle.sheets.specs.Trees.{tableOf}
 use Rattle.walk.specs.Walk.{takenIn}
 use Rattle.walk.specs.declared.Body.{Body}
-use Rattle.reader.specs.Take.{passOf, takeOf}
-use Rattle.reader.proofs.Laws.{take-verdict, take-values}
-use Rattle.format.specs.Format.{everySlot}
+use Rattle.reader.specs.Take.{takeOf}
+use Rattle.reader.proofs.Laws.{passOf, take-verdict, take-values}
 use Rattle.format.specs.Reading as Any
+use Rattle.format.proofs.Laws.{everySlot}
+use Rattle.format.proofs.Rows.{rows-body, rows-verdict}
 use Rattle.format.proofs.Tests.{every, every-at}
 use Rattle.trade.specs.Records.{tradeOf, blankTrade}
 use Rattle.trade.specs.declared.Trade.{Trade}
 use Rattle.kinds.specs.Kinds.{kindsPass}
 use Rattle.table.specs.Table.{header, slotOf}
 use Rattle.table.specs.Tree.{general, pool, details, tree}
+use Rattle.table.proofs.Trees.{good}
 use Rattle.values.specs.Mt515.{mt515}
 use Rattle.values.proofs.Laws.{same-values}
-use Rattle.mt515.specs.Reading.{told, judged, verdictOf, readOf}
+use Rattle.mt515.specs.Reading.{told, judged, readOf}
 use Rattle.mt515.specs.declared.Reading.{Reading}
 
 -- a refusal with the blank record
@@ -57,19 +59,27 @@ module _ (m : List ℕ) (r : Body) (e : r ≡ takeOf (tableOf tree) slotOf heade
   verdict-is = take-verdict (tableOf tree) slotOf header m r e
 
   pub refused : (r .verdict .number ≡ 0 → ⊥) → blankly (r .verdict) ≡ readOf m
-  unfolding readOf Any.readOf Any.verdictOf
+  unfolding readOf Any.readOf
   refused h =
       refused-is (r .verdict) (tradeOf value) h
-      ∙ ap (λ (v : Verdict). told (Any.reading blankTrade v (tradeOf value))) (stop (r .verdict) (passOf (tableOf tree) slotOf header m) (Any.rulesOf mt515 value) verdict-is h)
+      ∙ ap (λ (v : Verdict). told (Any.reading blankTrade v (tradeOf value)))
+      (stop (r .verdict) (passOf (tableOf tree) slotOf header m) (Any.rulesOf mt515 value) verdict-is h ∙ rows-verdict mt515 good m)
+
+  -- what stands at a slot's places is its value
+  stretch-value : r .verdict .number ≡ 0 → (s : ℕ) → has (everySlot mt515) s ≡ true → stretchOf m (r .starts) (r .ends) s ≡ value s
+  unfolding Any.valueOn
+  stretch-value z s i =
+      let pass = ap (λ (v : Verdict). v .number) (sym verdict-is) ∙ z in
+      rw (← (rows-body mt515 good m)) (take-values (tableOf tree) slotOf header m r e pass s (placed s i))
 
   -- nothing wrong up to the values: the kinds decide
   pub judged-is : r .verdict .number ≡ 0 → judged (stretchOf m (r .starts) (r .ends)) ≡ readOf m
-  unfolding judged readOf Any.readOf Any.verdictOf Any.rulesOf Any.valueOn Any.bodyOf
+  unfolding judged readOf Any.readOf Any.rulesOf
   judged-is z =
-      let good = ap (λ (v : Verdict). v .number) (sym verdict-is) ∙ z in
-      let same = same-values (stretchOf m (r .starts) (r .ends)) value (λ s i. take-values (tableOf tree) slotOf header m r e good s (placed s i)) in
+      let same = same-values (stretchOf m (r .starts) (r .ends)) value (stretch-value z) in
       rw (same .0, same .1)
-      (ap (λ (v : Verdict). told (Any.reading blankTrade v (tradeOf value))) (go (r .verdict) (passOf (tableOf tree) slotOf header m) (Any.rulesOf mt515 value) verdict-is z))
+      (ap (λ (v : Verdict). told (Any.reading blankTrade v (tradeOf value)))
+      (go (r .verdict) (passOf (tableOf tree) slotOf header m) (Any.rulesOf mt515 value) verdict-is z ∙ rows-verdict mt515 good m))
 
 -- ---- the kinds alone
 

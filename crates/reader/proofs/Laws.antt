@@ -24,7 +24,7 @@ use Rattle.walk.specs.Walk.{bodyPass, takenIn, valueFrom, walkOf}
 use Rattle.walk.specs.declared.Body.{Body}
 use Rattle.walk.proofs.Laws.{between-is, kept-at, stretch-is}
 use Rattle.reader.specs.Header.{headPass, headValue, startsFrom, endsFrom, headStarts, headEnds}
-use Rattle.reader.specs.Take.{passOf, placeless, takeOf}
+use Rattle.reader.specs.Take.{placeless, takeOf}
 
 -- ---- a line as a stretch
 
@@ -75,6 +75,11 @@ module _ (slotOf : ℕ → Slot) (m : List ℕ) (s : ℕ) where
       none = rw (getD-replicate {A = ℕ} slotCount s 0 0 h) (nothing m)
 
 -- ---- a message that was taken
+
+-- the verdict of 1 to 12, with the rows of a table
+unfoldable pub passOf : List Row → (ℕ → Slot) → List ℕ → List ℕ → Verdict
+passOf table slotOf header m =
+    then (linesPass m) (then (headPass slotOf header m) (then (nestPass m) (bodyPass slotOf (layoutOf table 5 (drop 4 (linesOf m))))))
 
 module _ (table : List Row) (slotOf : ℕ → Slot) (header m : List ℕ) where
   -- 1 to 7, and 8 to 12

@@ -4,23 +4,17 @@ use Prim.Native.Nat.{ℕ}
 use mathlib.Core.Bool.{cond}
 use mathlib.Core.List.{List}
 use lib.Dec.{eqb}
-use lib.ListN.{drop, replicate}
+use lib.ListN.{replicate}
 use Rattle.lines.specs.Verdicts.{then}
-use Rattle.lines.specs.Lines.{linesOf, linesPass}
+use Rattle.lines.specs.Lines.{linesPass}
 use Rattle.lines.specs.declared.Verdict.{Verdict}
 use Rattle.blocks.specs.Blocks.{nestPass}
 use Rattle.stretches.specs.Stretches.{slotCount}
 use Rattle.forms.specs.Forms.{Slot}
 use Rattle.layout.specs.Rows.{Row}
-use Rattle.layout.specs.Layout.{layoutOf}
-use Rattle.walk.specs.Walk.{bodyPass, walkOf}
+use Rattle.walk.specs.Walk.{walkOf}
 use Rattle.walk.specs.declared.Body.{Body}
 use Rattle.reader.specs.Header.{headPass, headStarts, headEnds}
-
--- the verdict of 1 to 12
-unfoldable pub passOf : List Row → (ℕ → Slot) → List ℕ → List ℕ → Verdict
-passOf table slotOf header m =
-    then (linesPass m) (then (headPass slotOf header m) (then (nestPass m) (bodyPass slotOf (layoutOf table 5 (drop 4 (linesOf m))))))
 
 -- a refusal keeps no places
 unfoldable pub placeless : Verdict → Body

@@ -12,12 +12,13 @@ use native.Mathlib.Nat.{not-suc-le-zero}
 use Rattle.text.specs.Bytes.{begins, same}
 use Rattle.text.proofs.Bools.{is-false, or-none}
 use Rattle.text.proofs.Laws.{and-left, and-right, and-both, same-refl, same-eq, begins-append}
-use Rattle.layout.specs.Layout.{Taken, Run, taken, withTaken, layoutOf}
-use Rattle.sheets.specs.Trees.{Field, Member, Tree, last, line, block, group, chain, tableOf}
-use Rattle.sheets.specs.Sheets.{Entry, edge, held, lineOf, linesIn, takenIn, come, has, lacking, Among, front, later, Laid, shut, given, absent, opened, passed, member, done, Sheet}
+use Rattle.layout.specs.Layout.{Taken, Run, taken, withTaken}
+use Rattle.layout.proofs.Laws.{withAll, all-none, all-append}
+use Rattle.sheets.specs.Trees.{Field, Member, Tree, last, line, block, group, chain}
+use Rattle.sheets.specs.Sheets.{Entry, edge, held, lineOf, linesIn, come, has, lacking, Among, front, later, Laid, shut, given, absent, opened, passed, member, done, Sheet}
+use Rattle.sheets.specs.Taking.{Spot, within, first, over, go, fit, next, seek, laterField, tell, moveOf, following, walk, takenBy}
 use Rattle.sheets.proofs.Checks.{goodSlot, goodFields, goodMembers, goodTree, Fit, starts, whole, fitsLine, clash, avoids, noneOf, apartFields, laterApart, apartMembers, apart}
-use Rattle.sheets.proofs.Machine.{Spot, within, first, over, go, fit, next, seek, laterField, tell, moveOf, following, walk}
-use Rattle.sheets.proofs.Walk.{good-chain, layout-walk}
+use Rattle.sheets.proofs.Moves.{good-chain}
 
 -- ---- texts that do not clash
 
@@ -66,10 +67,11 @@ clear a (done {o = o} e l) h = clear a l (and-right (not (clash a (whole o))) _ 
 
 -- ---- a sheet in front of further lines
 
--- what is taken of a sheet, in front of a run
-unfoldable pub withAll : List Taken → Run → Run
-withAll [] run = run
-withAll (t ∷ ts) run = withTaken t (withAll ts run)
+-- the slots of a sheet and their values, with the lines that they stand on, counted from n
+unfoldable pub takenOn : ℕ → List Entry → List Taken
+takenOn n [] = []
+takenOn n (edge o ∷ es) = takenOn (suc n) es
+takenOn n (held s k v ∷ es) = record { slot = s; line = n; value = v } ∷ takenOn (suc n) es
 
 -- the number of the line behind a sheet
 unfoldable pub lineBehind : ℕ → List Entry → ℕ
@@ -81,16 +83,11 @@ unfoldable pub resume : List ℕ → ℕ → List Tree → List (List ℕ) → R
 resume slots n [] ls = walk slots n over [] ls
 resume slots n (t ∷ ts) ls = walk slots n (within t) ts ls
 
-taken-append : (n : ℕ) (es ds : List Entry) → takenIn n (es ++ ds) ≡ takenIn n es ++ takenIn (lineBehind n es) ds
-unfolding takenIn lineBehind
+taken-append : (n : ℕ) (es ds : List Entry) → takenOn n (es ++ ds) ≡ takenOn n es ++ takenOn (lineBehind n es) ds
+unfolding takenOn lineBehind
 taken-append n [] ds = refl
 taken-append n (edge o ∷ es) ds = taken-append (suc n) es ds
 taken-append n (held s k v ∷ es) ds = ap (λ (l : List Taken). record { slot = s; line = n; value = v } ∷ l) (taken-append (suc n) es ds)
-
-all-append : (ts us : List Taken) (run : Run) → withAll (ts ++ us) run ≡ withAll ts (withAll us run)
-unfolding withAll
-all-append [] us run = refl
-all-append (t ∷ ts) us run = ap (withTaken t) (all-append ts us run)
 
 pub come-append : (slots : List ℕ) (es ds : List Entry) → come slots (es ++ ds) ≡ come (come slots es) ds
 unfolding come
@@ -111,7 +108,7 @@ lines-append (e ∷ es) ds more = ap (λ (l : List (List ℕ)). lineOf e ∷ l) 
 -- a sheet is taken, and the run goes on behind it
 Takes : List ℕ → ℕ → Spot → List Tree → List Tree → List Entry → Type 0
 Takes slots n spot ts us es =
-    (more : List (List ℕ)) → walk slots n spot ts (linesIn es ++ more) ≡ withAll (takenIn n es) (resume (come slots es) (lineBehind n es) us more)
+    (more : List (List ℕ)) → walk slots n spot ts (linesIn es ++ more) ≡ withAll (takenOn n es) (resume (come slots es) (lineBehind n es) us more)
 
 -- two sheets, one behind the other
 takes-both : (slots : List ℕ) (n : ℕ) (spot : Spot) (ts us : List Tree) (t : Tree) (es ds : List Entry)
@@ -124,17 +121,17 @@ takes-both slots n spot ts us t es ds h k more =
       taken-append n es ds,
       come-append slots es ds,
       behind-append n es ds,
-      all-append (takenIn n es) (takenIn (lineBehind n es) ds) (resume (come (come slots es) ds) (lineBehind (lineBehind n es) ds) us more),
+      all-append (takenOn n es) (takenOn (lineBehind n es) ds) (resume (come (come slots es) ds) (lineBehind (lineBehind n es) ds) us more),
     )
-    (h (linesIn ds ++ more) ∙ ap (withAll (takenIn n es)) (k more))
+    (h (linesIn ds ++ more) ∙ ap (withAll (takenOn n es)) (k more))
 
 -- the first line of a block moves on
 takes-edge : (slots : List ℕ) (n : ℕ) (spot to : Spot) (ts us vs : List Tree) (o : List ℕ) (es : List Entry)
     → moveOf slots o spot ts ≡ go 0 0 to us → Takes slots (suc n) to us vs es → Takes slots n spot ts vs (edge o ∷ es)
-unfolding Takes linesIn lineOf walk takenIn come lineBehind following
+unfolding Takes linesIn lineOf walk takenOn come lineBehind following
 takes-edge slots n spot to ts us vs o es e h more = rw e (h more)
 
--- a slot of 1 to 31 is not the 0 of the first and last lines of blocks
+-- a slot with a place is not the 0 of the first and last lines of blocks
 pub not-zero : (s : ℕ) → goodSlot s ≡ true → eqb s 0 ≡ false
 unfolding goodSlot
 not-zero s g = ne-eqb s 0 (λ z. not-suc-le-zero (rw z at (leb-true 1 s (and-left (leb 1 s) _ g))))
@@ -143,7 +140,7 @@ not-zero s g = ne-eqb s 0 (λ z. not-suc-le-zero (rw z at (leb-true 1 s (and-lef
 takes-held : (slots : List ℕ) (n : ℕ) (spot to : Spot) (ts us vs : List Tree) (s : ℕ) (k v : List ℕ) (es : List Entry)
     → goodSlot s ≡ true → moveOf slots (k ++ v) spot ts ≡ go s (length k) to us → Takes (s ∷ slots) (suc n) to us vs es
     → Takes slots n spot ts vs (held s k v ∷ es)
-unfolding Takes linesIn lineOf walk takenIn come lineBehind following withAll
+unfolding Takes linesIn lineOf walk takenOn come lineBehind following withAll
 takes-held slots n spot to ts us vs s k v es g e h more =
     rw (e, not-zero s g, drop-append-seam k v) (ap (withTaken (record { slot = s; line = n; value = v })) (h more))
 
@@ -217,7 +214,7 @@ not-lacking true b h = h refl
 not-lacking false b h = refl
 
 takes-last : (slots : List ℕ) (n : ℕ) (c : List ℕ) (ts : List Tree) → Takes slots n (within (last c)) ts ts (edge c ∷ [])
-unfolding Takes linesIn lineOf walk moveOf seek fit following next takenIn come lineBehind withAll resume
+unfolding Takes linesIn lineOf walk moveOf seek fit following next takenOn come lineBehind withAll resume
 takes-last slots n c [] more = rw (same-refl c)
 takes-last slots n c (t ∷ ts) more = rw (same-refl c)
 
@@ -258,15 +255,7 @@ takes-sheet {slots = slots} {es = es} (done {n = n} {a = a} {o = o} {c = c} {ms 
 
 -- ---- and a message with it
 
-withAll-taken : (ts : List Taken) → withAll ts (taken []) ≡ taken ts
-unfolding withAll withTaken
-withAll-taken [] = refl
-withAll-taken (t ∷ ts) = rw (withAll-taken ts)
-
 -- the lines of a sheet are taken for its slots
-pub reads : (t : Tree) (es : List Entry) (n : ℕ) → goodTree t ≡ true → apart t ≡ true → Sheet t es → layoutOf (tableOf t) n (linesIn es) ≡ taken (takenIn n es)
-unfolding Takes resume walk
-reads t es n g h l =
-    layout-walk t n (linesIn es) g
-    ∙ (rw (append-nil (linesIn es)) at (takes-sheet l h g n [] []))
-    ∙ withAll-taken (takenIn n es)
+pub reads : (t : Tree) (es : List Entry) (n : ℕ) → goodTree t ≡ true → apart t ≡ true → Sheet t es → takenBy t n (linesIn es) ≡ taken (takenOn n es)
+unfolding Takes resume walk takenBy
+reads t es n g h l = (rw (append-nil (linesIn es)) at (takes-sheet l h g n [] [])) ∙ all-none (takenOn n es)

@@ -2,14 +2,14 @@
 -- two rows between which it has to choose, and the last line of all fits no other row.
 use Prim.Native.Nat.{ℕ}
 use mathlib.Core.Bool.{Bool, true, false, _&&_, _||_, not}
-use mathlib.Core.List.{List, [], _∷_}
+use mathlib.Core.List.{List, [], _∷_, _++_, map}
 use lib.Dec.{leb, ltb}
 use Rattle.text.specs.Bytes.{begins, same}
 use Rattle.stretches.specs.Stretches.{slotCount}
 use Rattle.sheets.specs.Trees.{Field, Member, Tree, last, line, block, group, chain}
 use Rattle.sheets.specs.Sheets.{Entry, edge, held, has}
 use Rattle.sheets.specs.Filled.{some, anyField, anyIn}
-use Rattle.sheets.specs.Plain.{Group, groupsOf}
+use Rattle.sheets.specs.Plain.{Group}
 unfoldable pub use Rattle.sheets.specs.Slots.{fieldSlots, ownSlots, memberSlots, slotsOf, firstSlots, mustSlots}
 
 -- ---- slots: from 1 on, as many as have a byte
@@ -159,6 +159,17 @@ sole (last c) = true
 sole (line f t) = not (has (slotsOf t) (f .slot)) && sole t
 sole (block m o t u) = disjoint (slotsOf t) (slotsOf u) && (sole t && sole u)
 sole (group n a o c ms t) = soleMembers ms && (disjoint (memberSlots ms) (slotsOf t) && sole t)
+
+-- ---- the blocks that may stand in any order, as specs/Plain puts them in order: the order is the tree's
+
+unfoldable pub keysOf : List Member → List (List ℕ)
+keysOf ms = map (λ m. m .key) ms
+
+unfoldable pub groupsOf : Tree → List Group
+groupsOf (last c) = []
+groupsOf (line f t) = groupsOf t
+groupsOf (block m o t u) = groupsOf t ++ groupsOf u
+groupsOf (group n a o c ms t) = record { opening = o; closing = c; keys = keysOf ms } ∷ groupsOf t
 
 -- ---- lines: the first and last line of many blocks are no other row's, and a block that need not stand is not empty
 

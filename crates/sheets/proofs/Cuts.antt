@@ -11,13 +11,13 @@ use borrow.Author.Tests.{not-true}
 use Rattle.text.specs.Bytes.{begins, same}
 use Rattle.text.proofs.Bools.{of-both}
 use Rattle.text.proofs.Laws.{and-left, and-right, and-both, same-eq, begins-is}
-use Rattle.layout.specs.Layout.{Taken, Run, refusedAt, taken, withTaken, layoutOf}
-use Rattle.sheets.specs.Trees.{Field, Member, Tree, last, line, block, group, chain, tableOf}
-use Rattle.sheets.specs.Sheets.{Entry, edge, held, lineOf, linesIn, takenIn, come, has, lacking, Among, front, later, Laid, shut, given, absent, opened, passed, member, done, Sheet}
+use Rattle.layout.specs.Layout.{Taken, Run, refusedAt, taken, withTaken}
+use Rattle.sheets.specs.Trees.{Field, Member, Tree, last, line, block, group, chain}
+use Rattle.sheets.specs.Sheets.{Entry, edge, held, lineOf, linesIn, come, has, lacking, Among, front, later, Laid, shut, given, absent, opened, passed, member, done, Sheet}
+use Rattle.sheets.specs.Taking.{Spot, within, first, over, Move, no, go, fit, next, seek, laterField, tell, moveOf, following, walk, takenBy}
 use Rattle.sheets.proofs.Checks.{goodSlot, goodFields, goodMembers, goodTree, freeFields, freeMembers, free}
-use Rattle.sheets.proofs.Machine.{Spot, within, first, over, Move, no, go, fit, next, seek, laterField, tell, moveOf, following, walk}
-use Rattle.sheets.proofs.Walk.{goodSpot, goodTrees, GoodMove, good-move, layout-walk}
-use Rattle.sheets.proofs.Accepts.{come-append, not-zero}
+use Rattle.sheets.proofs.Moves.{goodSpot, goodTrees, GoodMove, good-move}
+use Rattle.sheets.proofs.Accepts.{takenOn, come-append, not-zero}
 
 -- ---- sheets of what is left
 
@@ -175,9 +175,8 @@ module _ (slots l : List ℕ) where
   found-tell n a o c all (m ∷ ms) t ts f g =
       of-both P (begins (m .key) l)
       (λ e. of-both P (has slots (m .slot)) (λ h. tt) (λ h. found-member n a o c all t ts m (f m front) e h (and-left _ _ g)))
-      (λ e. of-both P (laterField (m .inside) l) (λ h. tt)
-      (λ y. of-both P (same c l) (λ h. tt)
-      (λ h. found-tell n a o c all ms t ts (λ x i. f x (later i)) (and-right (goodFields (m .inside)) _ (and-right (goodSlot (m .slot)) _ g)))))
+      (λ e. of-both P (laterField (m .inside) l || same c l) (λ h. tt)
+      (λ h. found-tell n a o c all ms t ts (λ x i. f x (later i)) (and-right (goodFields (m .inside)) _ (and-right (goodSlot (m .slot)) _ g))))
     where
       P : Move → Type 0
       P = Found (LaidFrom slots (first n a o c all t) ts)
@@ -251,7 +250,7 @@ module _ (z : List ℕ) where
         let i = freeFields z (m .inside) c in
         of-both Safe (begins (m .key) l)
         (λ e. of-both Safe (has slots (m .slot)) (λ x. tt) (λ x. and-both {a = free z false (chain (m .inside) c)} (free-chain (m .inside) c (and-left i _ r)) k))
-        (λ e. of-both Safe (laterField (m .inside) l) (λ x. tt) (λ y. of-both Safe (same c l) (λ x. tt) (λ x. safe-tell ms c t ts (and-right i _ r) k)))
+        (λ e. of-both Safe (laterField (m .inside) l || same c l) (λ x. tt) (λ x. safe-tell ms c t ts (and-right i _ r) k))
 
     safe-move : (spot : Spot) (ts : List Tree) → safe spot ts ≡ true → Safe (moveOf slots l spot ts)
     unfolding moveOf safe Safe safeTrees free
@@ -293,8 +292,8 @@ module _ (z : List ℕ) where
     ends-tell (m ∷ ms) c t ts h =
         let k = not (begins (m .key) z) in
         rw (not-true (begins (m .key) z) (and-left k _ h))
-        (of-both Ends (laterField (m .inside) z) (λ e. tt)
-        (λ y. of-both Ends (same c z) (λ e. tt) (λ e. ends-tell ms c t ts (and-right (freeFields z (m .inside) c) _ (and-right k _ h)))))
+        (of-both Ends (laterField (m .inside) z || same c z) (λ e. tt)
+        (λ e. ends-tell ms c t ts (and-right (freeFields z (m .inside) c) _ (and-right k _ h))))
 
     ends-move : (spot : Spot) (ts : List Tree) → safe spot ts ≡ true → Ends (moveOf slots z spot ts)
     unfolding moveOf safe Ends safeTrees free
@@ -326,19 +325,19 @@ with-taken t (taken us) ts e = (us, refl, sym (ap takensOf e))
 
 -- lines that are those of a sheet
 Cut : List ℕ → ℕ → Spot → List Tree → List (List ℕ) → List Taken → Type 0
-Cut slots n spot ts ls tk = (es : List Entry) × (ls ≡ linesIn es) × (tk ≡ takenIn n es) × LaidFrom slots spot ts es
+Cut slots n spot ts ls tk = (es : List Entry) × (ls ≡ linesIn es) × (tk ≡ takenOn n es) × LaidFrom slots spot ts es
 
 module _ (slots l : List ℕ) (n : ℕ) (spot : Spot) (ts : List Tree) (ls : List (List ℕ)) (tk : List Taken) where
   -- a line that is the first or last of a block, and one that is a field's
   cut-edge : (s w : ℕ) (es : List Entry) (e : Entry) → eqb s 0 ≡ true → lineOf e ≡ l → Stands s w e → LaidFrom slots spot ts (e ∷ es)
-      → ls ≡ linesIn es → tk ≡ takenIn (suc n) es → Cut slots n spot ts (l ∷ ls) tk
-  unfolding Cut Stands linesIn takenIn lineOf
+      → ls ≡ linesIn es → tk ≡ takenOn (suc n) es → Cut slots n spot ts (l ∷ ls) tk
+  unfolding Cut Stands linesIn takenOn lineOf
   cut-edge s w es (edge o) z e i h q r = (edge o ∷ es, (rw (e, q)), r, h)
   cut-edge s w es (held j k v) z e i h q r = absurd (true≢false (sym z ∙ (rw (i .0) (i .2))))
 
   cut-held : (s w : ℕ) (us : List Taken) (es : List Entry) (e : Entry) → eqb s 0 ≡ false → lineOf e ≡ l → Stands s w e → LaidFrom slots spot ts (e ∷ es)
-      → ls ≡ linesIn es → us ≡ takenIn (suc n) es → tk ≡ record { slot = s; line = n; value = drop w l } ∷ us → Cut slots n spot ts (l ∷ ls) tk
-  unfolding Cut Stands linesIn takenIn lineOf
+      → ls ≡ linesIn es → us ≡ takenOn (suc n) es → tk ≡ record { slot = s; line = n; value = drop w l } ∷ us → Cut slots n spot ts (l ∷ ls) tk
+  unfolding Cut Stands linesIn takenOn lineOf
   cut-held s w us es (edge o) z e i h q r t = absurd (true≢false (rw i at z))
   cut-held s w us es (held j k v) z e i h q r t =
       (held j k v ∷ es, (rw (e, q)), t ∙ (rw (r, i .0, i .1, ← e, drop-append-seam k v)), h)
@@ -366,7 +365,7 @@ module _ (slots l : List ℕ) (n : ℕ) (spot : Spot) (ts : List Tree) (ls : Lis
 
 -- behind the last line of all
 cut-end : (slots : List ℕ) (n : ℕ) (spot : Spot) (ts : List Tree) (us : List Taken) → spot ≡ over → taken [] ≡ taken us → Cut slots n spot ts [] us
-unfolding Cut LaidFrom linesIn takenIn takensOf
+unfolding Cut LaidFrom linesIn takenOn takensOf
 cut-end slots n spot ts us q r = rw q ([], refl, sym (ap takensOf r), refl)
 
 module _ (z : List ℕ) where
@@ -386,9 +385,9 @@ module _ (z : List ℕ) where
 
 -- lines up to the last line of all that are taken are those of a sheet
 pub cuts : (t : Tree) (z : List ℕ) (ls : List (List ℕ)) (n : ℕ) (tk : List Taken)
-    → goodTree t ≡ true → free z true t ≡ true → layoutOf (tableOf t) n (ls ++ z ∷ []) ≡ taken tk
-    → (es : List Entry) × (ls ++ z ∷ [] ≡ linesIn es) × (tk ≡ takenIn n es) × Sheet t es
-unfolding Cut LaidFrom LaidAll goodSpot goodTrees safe safeTrees bottom
+    → goodTree t ≡ true → free z true t ≡ true → takenBy t n (ls ++ z ∷ []) ≡ taken tk
+    → (es : List Entry) × (ls ++ z ∷ [] ≡ linesIn es) × (tk ≡ takenOn n es) × Sheet t es
+unfolding Cut LaidFrom LaidAll goodSpot goodTrees safe safeTrees bottom takenBy
 cuts t z ls n tk g f e =
-    let (es, q, r, (ds, rest, a, i, b)) = cuts-walk z ls [] n (within t) [] tk g refl (and-both f refl) (sym (layout-walk t n (ls ++ z ∷ []) g) ∙ e) in
+    let (es, q, r, (ds, rest, a, i, b)) = cuts-walk z ls [] n (within t) [] tk g refl (and-both f refl) e in
     (es, q, r, rw (a, b, append-nil ds) i)

@@ -8,12 +8,13 @@ use lib.Dec.{eqb}
 use borrow.Author.Tests.{eqb-true, eq-eqb, not-true}
 use Rattle.text.proofs.Bools.{or-two, or-left, or-right, of-both}
 use Rattle.text.proofs.Laws.{and-left, and-right}
-use Rattle.layout.specs.Layout.{taken, layoutOf}
-use Rattle.sheets.specs.Trees.{Field, Member, Tree, last, line, block, group, chain, tableOf}
-use Rattle.sheets.specs.Sheets.{Entry, edge, held, linesIn, takenIn, come, has, lacking, Among, front, later, Laid, shut, given, absent, opened, passed, member, done, Sheet}
+use Rattle.layout.specs.Layout.{taken}
+use Rattle.sheets.specs.Trees.{Field, Member, Tree, last, line, block, group, chain}
+use Rattle.sheets.specs.Sheets.{Entry, edge, held, linesIn, come, has, lacking, Among, front, later, Laid, shut, given, absent, opened, passed, member, done, Sheet}
+use Rattle.sheets.specs.Taking.{takenBy}
 use Rattle.sheets.specs.Filled.{some, valueIn, anyField, anyMember, anyIn, filledFields, filledMembers, filled}
 use Rattle.sheets.proofs.Checks.{goodTree, apart, withFields, withMembers, withTree, onceMembers, once, allMembers, wholeMembers, complete}
-use Rattle.sheets.proofs.Accepts.{come-append, reads}
+use Rattle.sheets.proofs.Accepts.{takenOn, come-append, reads}
 
 -- ---- the slots that come, beside all that might: a relation of the two that holds at the start holds at the end
 
@@ -284,5 +285,5 @@ module _ (value : ℕ → List ℕ) where
 
 -- and a message that is laid out so is taken with them
 pub round : (value : ℕ → List ℕ) (t : Tree) (n : ℕ) → goodTree t ≡ true → apart t ≡ true → once [] t ≡ true → complete value t ≡ true
-    → layoutOf (tableOf t) n (linesIn (filled value t)) ≡ taken (takenIn n (filled value t))
+    → takenBy t n (linesIn (filled value t)) ≡ taken (takenOn n (filled value t))
 round value t n g a o k = reads t (filled value t) n g a (emits value t o k)

@@ -1,6 +1,6 @@
 pub mod Checks
-pub mod Machine
-pub mod Walk
+pub mod Moves
+pub mod Rows
 pub mod Accepts
 pub mod Cuts
 pub mod Emits

@@ -13,8 +13,8 @@ use Rattle.text.proofs.Laws.{and-left, and-right, same-refl, same-eq, begins-ap
 use Rattle.sheets.specs.Trees.{Field, Member, Tree, last, line, block, group, chain}
 use Rattle.sheets.specs.Sheets.{Entry, edge, held, lineOf, linesIn, come, has, Among, front, later, Laid, shut, given, absent, opened, passed, member, done, Sheet}
 use Rattle.sheets.specs.Filled.{some, valueIn, anyField, anyMember, anyIn, filledFields, filledMembers, filled}
-use Rattle.sheets.specs.Plain.{Group, ahead, through, firstBegins, blockWith, blocksWith, anyLine, past, arranged, inOrder, keysOf, groupsOf}
-use Rattle.sheets.proofs.Checks.{clash, starts, whole, fitsLine, noneOf, apartFields, laterApart, apartMembers, freeFields, freeMembers, free, fieldSlots, ownSlots, memberSlots, slotsOf, disjoint, distinct, soleMembers, sole, allFree, closedMembers, heavy, tellable, full}
+use Rattle.sheets.specs.Plain.{Group, ahead, through, firstBegins, blockWith, blocksWith, anyLine, past, arranged, inOrder}
+use Rattle.sheets.proofs.Checks.{keysOf, groupsOf, clash, starts, whole, fitsLine, noneOf, apartFields, laterApart, apartMembers, freeFields, freeMembers, free, fieldSlots, ownSlots, memberSlots, slotsOf, disjoint, distinct, soleMembers, sole, allFree, closedMembers, heavy, tellable, full}
 use Rattle.sheets.proofs.Accepts.{clash-apart, none-among, come-append, lines-append}
 use Rattle.sheets.proofs.Once.{has-append, apart-lists, slotsHeld, has-held, among-slots, chain-slots, inside, outside, Disjoint, one-or-apart, own-held, own-distinct, not-again, comes-once, own-values}
 use Rattle.sheets.proofs.Emits.{has-front, come-more, Fits}

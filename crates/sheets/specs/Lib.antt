@@ -2,5 +2,6 @@ pub mod Trees
 pub mod Notation
 pub mod Slots
 pub mod Sheets
+pub mod Taking
 pub mod Filled
 pub mod Plain

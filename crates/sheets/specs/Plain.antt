@@ -2,10 +2,9 @@
 -- blocks are picked out by their first line and the text that their second line begins with, and put in order in the place
 -- where they stood.
 use Prim.Native.Nat.{ℕ}
-use mathlib.Core.Bool.{Bool, true, false, _&&_, _||_, cond}
-use mathlib.Core.List.{List, [], _∷_, _++_, map}
+use mathlib.Core.Bool.{Bool, false, _&&_, _||_, cond}
+use mathlib.Core.List.{List, [], _∷_, _++_}
 use Rattle.text.specs.Bytes.{begins, same}
-use Rattle.sheets.specs.Trees.{Member, Tree, last, line, block, group}
 
 -- such blocks: their first and their last line, and the texts that tell them apart, in order
 pub record Group : Type 0 where
@@ -52,14 +51,3 @@ arranged g ls = ahead (g .opening) ls ++ (blocksWith (g .opening) (g .closing) (
 unfoldable pub inOrder : List Group → List (List ℕ) → List (List ℕ)
 inOrder [] ls = ls
 inOrder (g ∷ gs) ls = arranged g (inOrder gs ls)
-
--- ---- those of a table, whose order is the table's
-
-unfoldable pub keysOf : List Member → List (List ℕ)
-keysOf ms = map (λ m. m .key) ms
-
-unfoldable pub groupsOf : Tree → List Group
-groupsOf (last c) = []
-groupsOf (line f t) = groupsOf t
-groupsOf (block m o t u) = groupsOf t ++ groupsOf u
-groupsOf (group n a o c ms t) = record { opening = o; closing = c; keys = keysOf ms } ∷ groupsOf t

@@ -1,11 +1,10 @@
 -- Document 01, "The slots, in order", told from the other end: not which line is refused, but which lines a table lays out. A
 -- sheet is a filled-in form, the lines of a message with the slot that each stands for.
-use Prim.Native.Nat.{ℕ, suc}
+use Prim.Native.Nat.{ℕ}
 use mathlib.Core.Path.{_≡_}
 use mathlib.Core.Bool.{Bool, true, false, _||_, not}
 use mathlib.Core.List.{List, [], _∷_, _++_, map}
 use lib.Dec.{eqb}
-use Rattle.layout.specs.Layout.{Taken}
 use Rattle.sheets.specs.Trees.{Field, Member, Tree, last, line, block, group, chain}
 
 -- a line of a sheet: the first or last line of a block; or a field's, with its slot, the text that it begins with, and its value
@@ -20,12 +19,6 @@ lineOf (held s k v) = k ++ v
 -- the lines of a sheet
 unfoldable pub linesIn : List Entry → List (List ℕ)
 linesIn es = map lineOf es
-
--- the slots of a sheet and their values, with the lines that they stand on, counted from n
-unfoldable pub takenIn : ℕ → List Entry → List Taken
-takenIn n [] = []
-takenIn n (edge o ∷ es) = takenIn (suc n) es
-takenIn n (held s k v ∷ es) = record { slot = s; line = n; value = v } ∷ takenIn (suc n) es
 
 -- ---- which sheets a tree lays out
 

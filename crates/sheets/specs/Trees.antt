@@ -1,5 +1,5 @@
--- Document 01, "The slots, in order", once more: the rows of a table as the blocks that they make. A table is written as rows
--- because a program walks rows; what stands inside what is seen better in a tree, and the two say the same.
+-- Document 01, "The slots, in order": what stands inside what, as a tree of blocks and fields. What a tree takes is in specs/Taking, and
+-- which lines it lays out in specs/Sheets. A program walks rows: the rows of a tree, its table, stand at the end.
 use Prim.Native.Nat.{ℕ}
 use mathlib.Core.Bool.{Bool}
 use mathlib.Core.List.{List, [], _∷_}
@@ -34,7 +34,7 @@ unfoldable pub chain : List Field → List ℕ → Tree
 chain [] c = last c
 chain (f ∷ fs) c = line f (chain fs c)
 
--- ---- the rows of a tree, in front of other rows
+-- ---- a step of the code: the rows of a tree, in front of other rows
 
 unfoldable pub fieldRows : List Field → List Row → List Row
 fieldRows [] rows = rows

@@ -6,8 +6,7 @@ use mathlib.Core.List.{[]}
 use Rattle.text.specs.Bytes.{bytes, begins, same}
 use Rattle.sheets.specs.Trees.{chain}
 use Rattle.sheets.specs.Sheets.{has}
-use Rattle.sheets.proofs.Checks.{goodSlot, goodFields, goodMembers, goodTree, clash, avoids, noneOf, apartFields, laterApart, apartMembers, apart, freeFields, freeMembers, free, withFields, withMembers, withTree, onceMembers, once, fieldSlots, ownSlots, memberSlots, slotsOf, disjoint, distinct, soleMembers, sole, allFree, closedMembers, heavy, tellable}
-use Rattle.sheets.specs.Plain.{groupsOf, keysOf}
+use Rattle.sheets.proofs.Checks.{keysOf, groupsOf, goodSlot, goodFields, goodMembers, goodTree, clash, avoids, noneOf, apartFields, laterApart, apartMembers, apart, freeFields, freeMembers, free, withFields, withMembers, withTree, onceMembers, once, fieldSlots, ownSlots, memberSlots, slotsOf, disjoint, distinct, soleMembers, sole, allFree, closedMembers, heavy, tellable}
 use Rattle.table.specs.Tree.{general, pool, details, tree}
 
 -- every slot has its byte among those seen

@@ -15,14 +15,13 @@ use Rattle.forms.proofs.Printing.{allPrinted, printedForm}
 use Rattle.blocks.specs.Blocks.{isTagged, nameOf}
 use Rattle.sheets.specs.Slots.{fieldSlots, ownSlots, memberSlots, slotsOf, firstSlots, mustSlots}
 use Rattle.sheets.specs.Sheets.{has}
-use Rattle.sheets.specs.Plain.{groupsOf, keysOf}
-use Rattle.sheets.proofs.Checks.{clash, disjoint, distinct, withFields, withMembers, withTree}
+use Rattle.sheets.proofs.Checks.{keysOf, groupsOf, clash, disjoint, distinct, withFields, withMembers, withTree}
 use Rattle.sheets.proofs.Ends.{lastLine}
-use Rattle.format.specs.Format.{everySlot, optional}
+use Rattle.format.specs.Format.{optional}
 use Rattle.format.proofs.Tests.{every, isCodes, noCode, foreign, isAmountForm, apartText, onceFront, untouched, tidyRow, tidyFields, tidyMembers, tidyTree}
 use Rattle.format.proofs.Nests.{fieldKey, opensAt, closer, fieldKeys, memberKeys, nestable}
 use Rattle.format.proofs.Prints.{fieldTexts, memberTexts, texts, printable}
-use Rattle.format.proofs.Laws.{edges, strangers, Layout}
+use Rattle.format.proofs.Laws.{edges, strangers, everySlot, Layout}
 use Rattle.table.specs.Table.{slots, header, slotOf}
 use Rattle.table.specs.Tree.{general, pool, details, tree}
 use Rattle.table.proofs.Trees.{good, is-apart, ends-at, is-once, is-sole, is-tellable}

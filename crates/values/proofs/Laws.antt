@@ -28,11 +28,11 @@ use Rattle.sheets.specs.Slots.{fieldSlots, ownSlots, memberSlots, slotsOf, firs
 use Rattle.sheets.specs.Sheets.{has}
 use Rattle.sheets.specs.Filled.{some, anyIn, anyField}
 use Rattle.sheets.proofs.Checks.{complete, allMembers, wholeMembers, solid, solidMembers, solidFields}
-use Rattle.format.specs.Format.{mayLack, everySlot, optional}
+use Rattle.format.specs.Format.{mayLack, optional}
 use Rattle.format.specs.Reading.{rulesOf}
 use Rattle.format.specs.Writing.{behindIn}
 use Rattle.format.proofs.Tests.{every, every-at, number-form, tidied, amount-some}
-use Rattle.format.proofs.Laws.{Filled, Held}
+use Rattle.format.proofs.Laws.{everySlot, Filled, Held}
 use Rattle.trade.specs.Records.{kinds, sides, amountOr0, kindIn, sideIn, momentOr0, partyOf, tradeOf}
 use Rattle.trade.specs.declared.Kind.{Kind}
 use Rattle.trade.specs.declared.Side.{Side}

@@ -19,31 +19,11 @@ use Rattle.layout.specs.Rows.{Row}
 use Rattle.layout.specs.Layout.{Taken, Run, refusedAt, taken, stepOf, runOf, behind, withTaken, marked, layoutOf}
 use Rattle.layout.specs.declared.Place.{Place}
 use Rattle.layout.specs.declared.Step.{Step}
-use Rattle.layout.proofs.Laws.{run-next, takes-within}
+use Rattle.layout.proofs.Laws.{run-next, withAll, all-refused, all-none, all-more, takes-within}
 use Rattle.stretches.specs.Stretches.{slotCount}
 use Rattle.walk.specs.Walk.{valueVerdict, valuesPass, bodyPass, takenIn, startsOf, endsOf, walkOf}
 
 -- ---- one line more behind those that were taken
-
--- some lines that were taken, and then a run
-unfoldable pub onto : List Taken → Run → Run
-onto [] run = run
-onto (t ∷ ts) run = withTaken t (onto ts run)
-
-onto-refused : (ts : List Taken) (number line : ℕ) → onto ts (refusedAt number line) ≡ refusedAt number line
-unfolding onto withTaken
-onto-refused [] number line = refl
-onto-refused (t ∷ ts) number line = ap (withTaken t) (onto-refused ts number line)
-
-onto-none : (ts : List Taken) → onto ts (taken []) ≡ taken ts
-unfolding onto withTaken
-onto-none [] = refl
-onto-none (t ∷ ts) = ap (withTaken t) (onto-none ts)
-
-onto-more : (ts : List Taken) (t : Taken) (run : Run) → onto (ts ++ t ∷ []) run ≡ onto ts (withTaken t run)
-unfolding onto
-onto-more [] t run = refl
-onto-more (u ∷ ts) t run = ap (withTaken u) (onto-more ts t run)
 
 -- a verdict that is none is the pass
 plain : (slotOf : ℕ → Slot) (t : Taken) → then (valueVerdict slotOf t) pass ≡ valueVerdict slotOf t
@@ -90,14 +70,14 @@ module _ (table : List Row) (slotOf : ℕ → Slot) (m starts₀ ends₀ : List 
     pub ends-long : length ends ≡ slotCount
     pub seen-long : length seen ≡ slotCount
     pub front : List Taken
-    pub whole : onto front (runOf table here seen n (linesOf (drop at m))) ≡ layoutOf table 5 (drop 4 (linesOf m))
+    pub whole : withAll front (runOf table here seen n (linesOf (drop at m))) ≡ layoutOf table 5 (drop 4 (linesOf m))
     pub first : fault ≡ valuesPass slotOf front
     pub begun : starts ≡ startsOf slotOf m starts₀ front
     pub ended : ends ≡ endsOf m ends₀ front
 
   pub begin : (at : ℕ) → at ≡ startBehind m 4 → length starts₀ ≡ slotCount → length ends₀ ≡ slotCount
       → Kept starts₀ ends₀ (replicate {A = ℕ} slotCount 0) (record { row = 0; back = 0 }) pass at 5
-  unfolding onto layoutOf valuesPass startsOf endsOf
+  unfolding withAll layoutOf valuesPass startsOf endsOf
   begin at e starts-long ends-long =
       record {
         lines = 4;
@@ -130,7 +110,7 @@ module _ (table : List Row) (slotOf : ℕ → Slot) (m starts₀ ends₀ : List 
     unfolding runOf run
     over h =
         let none : ahead seen here at n ≡ taken [] = ap (runOf table here seen n) (lines-behind m at h) in
-        let all : run ≡ taken (k .front) = sym (k .whole) ∙ ap (onto (k .front)) none ∙ onto-none (k .front) in
+        let all : run ≡ taken (k .front) = sym (k .whole) ∙ ap (withAll (k .front)) none ∙ all-none (k .front) in
         rw (k .first, k .begun, k .ended) (taken-is (k .front) all)
 
     -- ---- one line more
@@ -177,7 +157,7 @@ module _ (table : List Row) (slotOf : ℕ → Slot) (m starts₀ ends₀ : List 
       unfolding behind run
       refusal h =
           let no : ahead seen here at n ≡ refusedAt (step .number) n = ahead-is ∙ rw (ne-eqb (step .number) 0 h) in
-          refused-is (step .number) n (sym (k .whole) ∙ ap (onto (k .front)) no ∙ onto-refused (k .front) (step .number) n)
+          refused-is (step .number) n (sym (k .whole) ∙ ap (withAll (k .front)) no ∙ all-refused (k .front) (step .number) n)
 
       -- the line is taken, or opens or closes a block
       t : Taken
@@ -227,7 +207,7 @@ module _ (table : List Row) (slotOf : ℕ → Slot) (m starts₀ ends₀ : List 
                   ends-long = ap length e ∙ k .ends-long;
                   seen-long = ap length d ∙ length-set seen (step .slot) 1 ∙ k .seen-long;
                   front = k .front;
-                  whole = ap (onto (k .front)) (rest-is ∙ sym a) ∙ k .whole;
+                  whole = ap (withAll (k .front)) (rest-is ∙ sym a) ∙ k .whole;
                   first = f ∙ k .first;
                   begun = s ∙ k .begun;
                   ended = e ∙ k .ended;
@@ -242,7 +222,7 @@ module _ (table : List Row) (slotOf : ℕ → Slot) (m starts₀ ends₀ : List 
                   ends-long = ap length e ∙ length-set ends (step .slot) _ ∙ k .ends-long;
                   seen-long = ap length d ∙ length-set seen (step .slot) 1 ∙ k .seen-long;
                   front = k .front ++ t ∷ [];
-                  whole = onto-more (k .front) t _ ∙ ap (λ (r : Run). onto (k .front) (withTaken t r)) rest-is ∙ ap (onto (k .front)) (sym a) ∙ k .whole;
+                  whole = all-more (k .front) t _ ∙ ap (λ (r : Run). withAll (k .front) (withTaken t r)) rest-is ∙ ap (withAll (k .front)) (sym a) ∙ k .whole;
                   first = f ∙ ap (λ (v : Verdict). then v (valueVerdict slotOf t)) (k .first) ∙ sym (verdict-more slotOf t (k .front));
                   begun = s ∙ rw (← value-at, k .begun) (sym (starts-more slotOf t m starts₀ (k .front)));
                   ended = e ∙ ap (set ends (step .slot)) (sym ends-here) ∙ ap (λ (x : List ℕ). set x (step .slot) (endOf m n)) (k .ended) ∙ sym (ends-more slotOf t m ends₀ (k .front));

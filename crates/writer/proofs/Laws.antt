@@ -2,7 +2,7 @@
 -- Assumes nothing.
 use Prim.Native.Nat.{ℕ, _≤_}
 use mathlib.Core.Path.{_≡_, refl, sym, ap, _∙_}
-use mathlib.Core.List.{List, [], _∷_, _++_, append-assoc}
+use mathlib.Core.List.{List, [], _∷_, _++_, map, append-assoc}
 use native.Mathlib.Omega.{arith}
 use lib.ListN.{length}
 use Rattle.text.specs.Bytes.{bytes}
@@ -17,7 +17,11 @@ use Rattle.lines.specs.Lines.{joined}
 use Rattle.fill.specs.Filling.{Lent, valueAt, behindAt, filling}
 use Rattle.fill.proofs.Runs.{Put, Run, flat-append, whole}
 use Rattle.fill.proofs.Walks.{joined-append, filling-is}
-use Rattle.writer.specs.Parts.{headLines, headParts, messageParts}
+use Rattle.writer.specs.Parts.{headParts, messageParts}
+
+-- each line of the header is its slot's fixed text and value
+unfoldable pub headLines : (ℕ → Slot) → (ℕ → List ℕ) → List ℕ → List (List ℕ)
+headLines slotOf value header = map (λ h. slotOf h .fixed ++ value h) header
 
 pub header-is : (slotOf : ℕ → Slot) (value : ℕ → List ℕ) (header : List ℕ) → flat (headParts slotOf value header) ≡ joined (headLines slotOf value header)
 unfolding flat joined headLines headParts

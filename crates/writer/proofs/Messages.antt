@@ -22,8 +22,8 @@ use Rattle.format.specs.Writing.{behindIn, headLine, linesFor, messageOf}
 use Rattle.format.proofs.Tests.{every, every-at}
 use Rattle.fill.specs.Filling.{Lent, isAny, frontOf, valueAt, behindAt}
 use Rattle.fill.proofs.Runs.{Put, Run}
-use Rattle.writer.specs.Parts.{headLines, messageParts}
-use Rattle.writer.proofs.Laws.{lines, put-whole}
+use Rattle.writer.specs.Parts.{messageParts}
+use Rattle.writer.proofs.Laws.{headLines, lines, put-whole}
 
 -- the fixed text that is left out where nothing follows it
 left-out : (o : Bool) (f v : List ℕ) → cond (o && eqb (length v) 0) [] f ++ v ≡ cond (o && eqb (length v) 0) [] (f ++ v)

@@ -1,17 +1,12 @@
--- A message of any type with the values of its slots, from the writer's side: the lines of its header, and the parts that all its
--- lines are put as.
+-- A message of any type with the values of its slots, from the writer's side: the parts that its lines are put as.
 use Prim.Native.Nat.{ℕ}
-use mathlib.Core.List.{List, [], _∷_, _++_, map}
+use mathlib.Core.List.{List, [], _∷_, _++_}
 use Rattle.text.specs.Bytes.{bytes}
 use Rattle.forms.specs.Forms.{Slot}
 use Rattle.forms.specs.Slots.{slotAt}
 use Rattle.fill.specs.Filling.{Lent, valueAt, filling}
 
--- each line of the header has a slot, and is the slot's fixed text and its value
-unfoldable pub headLines : (ℕ → Slot) → (ℕ → List ℕ) → List ℕ → List (List ℕ)
-headLines slotOf value header = map (λ h. slotOf h .fixed ++ value h) header
-
--- both are put, and CR LF behind them
+-- each line of the header has a slot: the slot's fixed text and its value are put, and CR LF behind them
 unfoldable pub headParts : (ℕ → Slot) → (ℕ → List ℕ) → List ℕ → List (List ℕ)
 headParts slotOf value [] = []
 headParts slotOf value (h ∷ hs) = slotOf h .fixed ∷ value h ∷ bytes "\r\n" ∷ headParts slotOf value hs

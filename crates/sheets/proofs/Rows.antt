@@ -1,8 +1,8 @@
--- The walk over a tree is the run over its rows.
+-- The code walks rows: the run over the rows of a tree is how the tree takes the lines.
 -- Assumes nothing.
-use Prim.Native.Nat.{ℕ, zero, suc, _+_, _-_, _≤_, _<_}
+use Prim.Native.Nat.{ℕ, suc, _+_, _-_, _≤_, _<_}
 use mathlib.Core.Path.{_≡_, refl, sym, ap, _∙_}
-use mathlib.Core.Bool.{Bool, true, false, _&&_, _||_, cond, true≢false}
+use mathlib.Core.Bool.{Bool, true, false, _&&_, _||_, cond}
 use mathlib.Core.List.{List, [], _∷_}
 use native.Mathlib.Nat.{not-suc-le-zero}
 use native.Mathlib.Omega.{arith}
@@ -11,7 +11,7 @@ use lib.ListN.{length, drop, getD, set, replicate, length-set, length-replicate,
 use lib.Seq.{drop-drop, getD-set-same, getD-set-other}
 use borrow.Author.Tests.{leb-true, ltb-true, ne-eqb, eqb-true, eqb-false}
 use Rattle.text.specs.Bytes.{begins, same}
-use Rattle.text.proofs.Laws.{and-left, and-right, and-both}
+use Rattle.text.proofs.Laws.{and-left, and-right}
 use Rattle.layout.specs.Rows.{Row, field, opens, closes, many, mark, back, ends}
 use Rattle.layout.specs.Layout.{wrong, moves, fits, isSeen, lacks, beneath, against, look, onward, scan, stepOf, withTaken, marked, behind, runOf, layoutOf}
 use Rattle.layout.specs.declared.Place.{Place}
@@ -20,8 +20,9 @@ use Rattle.layout.specs.declared.Look.the-variants.{Decided, Further}
 use Rattle.stretches.specs.Stretches.{slotCount}
 use Rattle.sheets.specs.Trees.{Field, Member, Tree, last, line, block, group, chain, fieldRows, memberRows, rowsIn, tableOf}
 use Rattle.sheets.specs.Sheets.{has, lacking}
+use Rattle.sheets.specs.Taking.{Spot, within, first, over, Move, no, go, fit, next, seek, laterField, tell, moveOf, following, walk, takenBy}
 use Rattle.sheets.proofs.Checks.{goodSlot, goodFields, goodMembers, goodTree}
-use Rattle.sheets.proofs.Machine.{Spot, within, first, over, Move, no, go, fit, next, seek, laterField, tell, moveOf, following, walk}
+use Rattle.sheets.proofs.Moves.{goodSpot, goodTrees, GoodMove, good-move}
 
 -- the rows of what is left of the blocks around
 unfoldable pub rowsAround : List Tree → List Row
@@ -79,7 +80,7 @@ seen-none : Told (replicate {A = ℕ} slotCount 0) []
 unfolding isSeen has goodSlot
 seen-none = (length-replicate {A = ℕ} slotCount 0, λ s g. rw (getD-replicate {A = ℕ} slotCount s 0 0 (ltb-true s slotCount (and-right (leb 1 s) _ g))))
 
--- a slot of 1 to 31 that comes is seen from then on, and it alone
+-- a slot with a place that comes is seen from then on, and it alone
 seen-more : (seen slots : List ℕ) (s : ℕ) → goodSlot s ≡ true → Told seen slots → Told (set seen s 1) (s ∷ slots)
 unfolding isSeen has goodSlot
 seen-more seen slots s g t = (length-set seen s 1 ∙ t .0, λ x h. on x h (eqb s x) refl)
@@ -242,22 +243,13 @@ module _ (table : List Row) (here : Place) (seen slots l : List ℕ) (told : Tol
       rw (told .1 (m .slot) k)
       (does-on table (begins (m .key) l) 1 true false (from (row + 1) (fieldRows (m .inside) (back c ∷ memberRows c ms rows)))
       (does-cond table (has slots (m .slot)) does-8 (takes-for refl refl refl (in-member (m .inside) c (memberRows c ms rows) e' b)))
+      (rw (either (laterField (m .inside) l) (same c l) (no 9) (tell slots l c t ts ms))
       (does-later (m .inside) (back c ∷ memberRows c ms rows) (row + 1) e'
       (λ to q. does-on table (same c l) 0 true false (from (to + 1) (memberRows c ms rows))
       (refuses {k = 9} refl (omega arith))
-      (does-first ms c rows t ts (to + 1) true (and-right (goodFields (m .inside)) _ (and-right (goodSlot (m .slot)) _ g)) (next-row table to _ _ q) b))))
+      (does-first ms c rows t ts (to + 1) true (and-right (goodFields (m .inside)) _ (and-right (goodSlot (m .slot)) _ g)) (next-row table to _ _ q) b)))))
 
 -- ---- a step is a move
-
--- every slot of what is left is 1 to 31
-unfoldable pub goodSpot : Spot → Bool
-goodSpot (within t) = goodTree t
-goodSpot (first n a o c ms t) = goodTree (group n a o c ms t)
-goodSpot over = true
-
-unfoldable pub goodTrees : List Tree → Bool
-goodTrees [] = true
-goodTrees (t ∷ ts) = goodTree t && goodTrees ts
 
 step-move : (table : List Row) (here : Place) (seen slots l : List ℕ) (spot : Spot) (ts : List Tree)
     → Told seen slots → At table here spot ts → goodSpot spot ≡ true → Does table (stepOf table here seen l) (moveOf slots l spot ts)
@@ -268,61 +260,6 @@ step-move table here seen slots l _ ts told (at-first {n = n} {a = a} {o = o} {c
 step-move table here seen slots l _ _ told (in-member fs c rows {t = t} {ts = ts} e b) g =
     rw e (does-inside table here seen slots l told fs c rows t ts (here .row) false false e b)
 step-move table here seen slots l _ _ told (at-end e) g = rw e (refuses {k = 8} refl (omega arith))
-
--- ---- and leaves good slots behind it
-
--- a slot that is taken is 1 to 31, and so are those that are left
-unfoldable pub GoodMove : Move → Type 0
-GoodMove (no k) = Unit
-GoodMove (go s w spot ts) = (eqb s 0 ≡ false → goodSlot s ≡ true) × (goodSpot spot ≡ true) × (goodTrees ts ≡ true)
-
-good-cond : (b : Bool) (x y : Move) → GoodMove x → GoodMove y → GoodMove (cond b x y)
-good-cond true x y h k = h
-good-cond false x y h k = k
-
-good-fit : (p : Bool) (x : Move) → GoodMove x → GoodMove (fit p x)
-unfolding fit GoodMove
-good-fit p x h = good-cond p (no 9) x tt h
-
-good-next : (ts : List Tree) → goodTrees ts ≡ true → GoodMove (next ts)
-unfolding next GoodMove goodTrees goodSpot
-good-next [] g = (λ e. absurd (true≢false e), refl, refl)
-good-next (t ∷ ts) g = (λ e. absurd (true≢false e), and-left _ _ g, and-right (goodTree t) _ g)
-
-pub good-chain : (fs : List Field) (c : List ℕ) → goodFields fs ≡ true → goodTree (chain fs c) ≡ true
-unfolding goodFields goodTree chain
-good-chain [] c g = refl
-good-chain (f ∷ fs) c g = and-both {a = goodSlot (f .slot)} (and-left _ (goodFields fs) g) (good-chain fs c (and-right (goodSlot (f .slot)) _ g))
-
-module _ (slots l : List ℕ) where
-  good-seek : (t : Tree) (ts : List Tree) (p : Bool) → goodTree t ≡ true → goodTrees ts ≡ true → GoodMove (seek slots l p ts t)
-  unfolding seek goodTree GoodMove goodTrees goodSpot
-  good-seek (last c) ts p g h = good-cond (same c l) _ _ (good-fit p _ (good-next ts h)) tt
-  good-seek (line f t) ts p g h =
-      let k = and-right (goodSlot (f .slot)) _ g in
-      good-cond (begins (f .key) l) _ _ (good-fit p _ (λ e. and-left _ _ g, k, h)) (good-seek t ts (p || f .must) k h)
-  good-seek (block m o t u) ts p g h =
-      let k = and-right (goodTree t) _ g in
-      good-cond (same o l) _ _ (good-fit p _ (λ e. absurd (true≢false e), and-left _ _ g, and-both k h)) (good-seek u ts (p || m) k h)
-  good-seek (group n a o c ms t) ts p g h =
-      good-cond (same o l && (a || lacking slots ms)) _ _ (good-fit p _ (λ e. absurd (true≢false e), g, h))
-      (good-seek t ts (p || (n && lacking slots ms)) (and-right (goodMembers ms) _ g) h)
-
-  good-tell : (ms : List Member) (c : List ℕ) (t : Tree) (ts : List Tree) → goodMembers ms ≡ true → goodTree t ≡ true → goodTrees ts ≡ true
-      → GoodMove (tell slots l c t ts ms)
-  unfolding tell goodMembers GoodMove goodTrees goodSpot
-  good-tell [] c t ts g k h = tt
-  good-tell (m ∷ ms) c t ts g k h =
-      let r = and-right (goodSlot (m .slot)) _ g in
-      good-cond (begins (m .key) l) _ _
-      (good-cond (has slots (m .slot)) _ _ tt (λ e. and-left _ _ g, good-chain (m .inside) c (and-left _ _ r), and-both k h))
-      (good-cond (laterField (m .inside) l) _ _ tt (good-cond (same c l) _ _ tt (good-tell ms c t ts (and-right (goodFields (m .inside)) _ r) k h)))
-
-  pub good-move : (spot : Spot) (ts : List Tree) → goodSpot spot ≡ true → goodTrees ts ≡ true → GoodMove (moveOf slots l spot ts)
-  unfolding moveOf goodSpot goodTree GoodMove
-  good-move (within t) ts g h = good-seek t ts false g h
-  good-move (first n a o c ms t) ts g h = good-tell ms c (group n a o c ms t) ts (and-left _ _ g) g h
-  good-move over ts g h = tt
 
 -- ---- the run is the walk
 
@@ -359,7 +296,7 @@ run-walk table (l ∷ ls) n here seen slots spot ts told at g h =
     one-line table l ls n seen slots (stepOf table here seen l) (moveOf slots l spot ts) (run-walk table ls (suc n)) told
     (step-move table here seen slots l spot ts told at g) (good-move slots l spot ts g h)
 
--- the lines of a message against a table are walked over its tree
-pub layout-walk : (t : Tree) (n : ℕ) (ls : List (List ℕ)) → goodTree t ≡ true → layoutOf (tableOf t) n ls ≡ walk [] n (within t) [] ls
-unfolding layoutOf tableOf rowsAround goodSpot goodTrees Alike
-layout-walk t n ls g = run-walk (rowsIn t []) ls n (record { row = 0; back = 0 }) (replicate {A = ℕ} slotCount 0) [] (within t) [] seen-none (in-block refl) g refl
+-- the lines of a message, held against the rows of a tree, are taken as by the tree
+pub rows-take : (t : Tree) (n : ℕ) (ls : List (List ℕ)) → goodTree t ≡ true → layoutOf (tableOf t) n ls ≡ takenBy t n ls
+unfolding layoutOf tableOf rowsAround goodSpot goodTrees Alike takenBy
+rows-take t n ls g = run-walk (rowsIn t []) ls n (record { row = 0; back = 0 }) (replicate {A = ℕ} slotCount 0) [] (within t) [] seen-none (in-block refl) g refl
