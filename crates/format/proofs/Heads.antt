@@ -21,7 +21,7 @@ use Rattle.sheets.specs.Plain.{Group, anyLine}
 use Rattle.text.proofs.Bools.{is-false, or-two, or-none, or-left, or-right}
 use Rattle.sheets.proofs.Checks.{distinct}
 use Rattle.sheets.proofs.Emits.{has-front}
-use Rattle.sheets.proofs.Order.{Missing}
+use Rattle.sheets.proofs.Picking.{Missing}
 use Rattle.reader.specs.Header.{headVerdict, headValue}
 use Rattle.format.specs.Plain.{tidyLine}
 use Rattle.format.proofs.Tests.{every, every-at, foreign, never-begins, same-begins, untouched, untouched-line}

@@ -18,7 +18,7 @@ use Rattle.sheets.specs.Sheets.{Entry, has, Sheet}
 use Rattle.sheets.specs.Filled.{some, valueIn}
 use Rattle.text.proofs.Bools.{is-false, or-case}
 use Rattle.sheets.proofs.Once.{has-append, apart-lists, slotsHeld, inside}
-use Rattle.sheets.proofs.Order.{value-absent}
+use Rattle.sheets.proofs.Plain.{value-absent}
 use Rattle.sheets.proofs.Musts.{musts}
 use Rattle.sheets.proofs.Settled.{sheet-settles}
 use Rattle.reader.specs.Header.{headPass, headValue}

@@ -20,7 +20,7 @@ use Rattle.sheets.specs.Plain.{inOrder}
 use Rattle.text.proofs.Bools.{or-one, or-two}
 use Rattle.sheets.proofs.Emits.{has-front}
 use Rattle.sheets.proofs.Once.{has-append}
-use Rattle.sheets.proofs.Order.{plain-behind}
+use Rattle.sheets.proofs.Plain.{plain-behind}
 use Rattle.sheets.proofs.Musts.{Turned, TurnedFields, TurnedMembers, TurnedTree, turned}
 use Rattle.reader.specs.Header.{headPass}
 use Rattle.format.specs.Format.{Format, optional}

@@ -29,7 +29,7 @@ use Rattle.sheets.proofs.Emits.{emits, values, Fits, fits-filled}
 use Rattle.sheets.proofs.Once.{has-append, slotsHeld, inside}
 use Rattle.sheets.proofs.Solid.{full-filled}
 use Rattle.sheets.proofs.Ends.{laid-ends}
-use Rattle.sheets.proofs.Order.{none-both}
+use Rattle.sheets.proofs.Picking.{none-both}
 use Rattle.reader.specs.Header.{headPass, headValue}
 use Rattle.format.specs.Format.{Format, optional}
 use Rattle.format.specs.Reading.{rulesOf, readOf}

@@ -19,7 +19,7 @@ use Rattle.text.proofs.Bools.{or-one, or-two, of-both}
 use Rattle.sheets.proofs.Accepts.{takenOn}
 use Rattle.sheets.proofs.Checks.{full}
 use Rattle.sheets.proofs.Once.{apart-lists, slotsHeld, Once, inside, outside, comes-once}
-use Rattle.sheets.proofs.Order.{value-absent}
+use Rattle.sheets.proofs.Plain.{value-absent}
 use Rattle.walk.specs.Walk.{valueVerdict, valuesPass, valueFrom}
 use Rattle.reader.specs.Header.{headValue}
 use Rattle.format.specs.Format.{Format}

@@ -11,7 +11,7 @@ use Rattle.sheets.specs.Trees.{Tree, last, line, block, group}
 use Rattle.sheets.specs.Sheets.{Entry, edge, held, lineOf, linesIn, Laid, shut, given, absent, opened, passed, member, done}
 use Rattle.sheets.specs.Plain.{anyLine}
 use Rattle.sheets.proofs.Checks.{freeMembers, free}
-use Rattle.sheets.proofs.Order.{key-misses, line-misses, laid-misses, among-free, chain-free}
+use Rattle.sheets.proofs.Picking.{key-misses, line-misses, laid-misses, among-free, chain-free}
 
 unfoldable pub lastLine : Tree → List ℕ
 lastLine (last c) = c

@@ -5,7 +5,9 @@ pub mod Accepts
 pub mod Cuts
 pub mod Emits
 pub mod Once
+pub mod Picking
 pub mod Order
+pub mod Plain
 pub mod Musts
 pub mod Solid
 pub mod Ends

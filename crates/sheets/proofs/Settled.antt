@@ -17,7 +17,8 @@ use Rattle.text.proofs.Bools.{is-false, or-case, or-one, or-two, or-none, or-le
 use Rattle.sheets.proofs.Checks.{disjoint, distinct, soleMembers, sole, allMembers, wholeMembers, complete, solidFields, solidMembers, solid}
 use Rattle.sheets.proofs.Emits.{has-front, no-value}
 use Rattle.sheets.proofs.Once.{has-append, apart-lists, slotsHeld, has-held, among-slots, inside, outside, Disjoint, one-or-apart, own-held, own-distinct}
-use Rattle.sheets.proofs.Order.{Units, none, unit, split, units-slots, none-fields, none-in}
+use Rattle.sheets.proofs.Order.{Units, none, unit, split, units-slots}
+use Rattle.sheets.proofs.Plain.{none-fields, none-in}
 use Rattle.sheets.proofs.Musts.{come-held, musts-come}
 
 right-false : (b : Bool) → (b || false) ≡ b
