@@ -1,3 +1,4 @@
 pub mod Narrative
 pub mod Records
+pub mod Parts
 pub mod Cases

@@ -20,6 +20,7 @@ ghost use Rattle.amount.specs.Amounts.{amountRead};
 ghost use Rattle.calendar.specs.Dates.{dateRead, momentRead};
 ghost use Rattle.stretches.specs.Stretches.{stretchOf};
 ghost use Rattle.trade.specs.Records.{amountOr0, dateOr0, momentOr0, partyOf, tradeOf, blankTrade};
+ghost use Rattle.trade.specs.Parts.{linksOf, detailsOf, securityOf};
 
 // The kinds of an MT515.
 pub enum Kind {
@@ -78,30 +79,55 @@ pub struct Trade {
     pub reason: Text,
 }
 
+// The parts of a record that are gathered by themselves: what it is linked with,
+struct Links {
+    mast: Text,
+    prev: Text,
+    list: Text,
+}
+
+// the trade's details,
+struct Details {
+    trad: Moment,
+    sett: Date,
+    price: Price,
+    side: Side,
+    kind: Kind,
+}
+
+// and the security, with what the narrative tells.
+struct Security {
+    par: Par,
+    cusip: Text,
+    pool: Text,
+    service: Service,
+    period: Period,
+    reason: Text,
+}
+
 // The record that stands beside a refusal.
 pub fn blank() -> Trade
     ensures { λ r. ⌜ r ≡ blankTrade ⌝ }
 {
+    let none = Text::BLANK;
+    let never = Moment {
+        date: Date(0),
+        time: Time(0),
+    };
     let nobody = Party {
-        code: Text::BLANK,
-        reference: Text::BLANK,
-        trader: Text::BLANK,
+        code: none,
+        reference: none,
+        trader: none,
     };
     Trade {
-        password: Text::BLANK,
-        sender: Text::BLANK,
-        seme: Text::BLANK,
-        prep: Moment {
-            date: Date(0),
-            time: Time(0),
-        },
-        mast: Text::BLANK,
-        prev: Text::BLANK,
-        list: Text::BLANK,
-        trad: Moment {
-            date: Date(0),
-            time: Time(0),
-        },
+        password: none,
+        sender: none,
+        seme: none,
+        prep: never,
+        mast: none,
+        prev: none,
+        list: none,
+        trad: never,
         sett: Date(0),
         price: Price::ZERO,
         side: Side::Buyi,
@@ -109,11 +135,11 @@ pub fn blank() -> Trade
         buyer: nobody,
         seller: nobody,
         par: Par::ZERO,
-        cusip: Text::BLANK,
-        pool: Text::BLANK,
+        cusip: none,
+        pool: none,
         service: Service::Sbod,
         period: Period::Absent,
-        reason: Text::BLANK,
+        reason: none,
     }
 }
 
@@ -181,31 +207,85 @@ fn party_at<'a, 'b>(
     }
 }
 
-// The record of a message, from where the value of each slot begins and ends.
-pub fn gather<'a, 'b>(message: &'a [u8], starts: &'b [usize], ends: &'b [usize]) -> Trade
-    ensures { λ r. ⌜ r ≡ tradeOf (stretchOf (now (message .entry)) (now (starts .entry)) (now (ends .entry))) ⌝ }
+// MAST, PREV and LIST.
+fn links_at<'a, 'b>(message: &'a [u8], starts: &'b [usize], ends: &'b [usize]) -> Links
+    ensures { λ r. ⌜ r ≡ linksOf (tradeOf (stretchOf (now (message .entry)) (now (starts .entry)) (now (ends .entry)))) ⌝ }
 {
-    let narrative = stretches::stretch(message, starts, ends, 21);
-    Trade {
-        password: text_at(message, starts, ends, 28),
-        sender: text_at(message, starts, ends, 29),
-        seme: text_at(message, starts, ends, 1),
-        prep: moment_at(message, starts, ends, 3),
+    Links {
         mast: text_at(message, starts, ends, 4),
         prev: text_at(message, starts, ends, 5),
         list: text_at(message, starts, ends, 6),
+    }
+}
+
+// TRAD, SETT, DEAL, BUSE and PROC.
+fn details_at<'a, 'b>(message: &'a [u8], starts: &'b [usize], ends: &'b [usize]) -> Details
+    ensures { λ r. ⌜ r ≡ detailsOf (tradeOf (stretchOf (now (message .entry)) (now (starts .entry)) (now (ends .entry)))) ⌝ }
+{
+    Details {
         trad: moment_at(message, starts, ends, 7),
         sett: date_at(message, starts, ends, 8),
         price: Price::of(amount_at(message, starts, ends, 9)),
         side: words::side_in(stretches::stretch(message, starts, ends, 10)),
         kind: words::kind_in(stretches::stretch(message, starts, ends, 11)),
-        buyer: party_at(message, starts, ends, 12, 13, 14),
-        seller: party_at(message, starts, ends, 15, 16, 17),
+    }
+}
+
+// Par, CUSIP, POOL, and what the narrative tells.
+fn security_at<'a, 'b>(message: &'a [u8], starts: &'b [usize], ends: &'b [usize]) -> Security
+    ensures { λ r. ⌜ r ≡ securityOf (tradeOf (stretchOf (now (message .entry)) (now (starts .entry)) (now (ends .entry)))) ⌝ }
+{
+    let narrative = stretches::stretch(message, starts, ends, 21);
+    Security {
         par: Par::of(amount_at(message, starts, ends, 18)),
         cusip: text_at(message, starts, ends, 19),
         pool: text_at(message, starts, ends, 20),
         service: narrative::service_of(narrative),
         period: narrative::period_of(narrative),
         reason: Text::of(forms::narrative::reason_in(narrative)),
+    }
+}
+
+// The record of a message, from where the value of each slot begins and ends.
+pub fn gather<'a, 'b>(message: &'a [u8], starts: &'b [usize], ends: &'b [usize]) -> Trade
+    ensures { λ r. ⌜ r ≡ tradeOf (stretchOf (now (message .entry)) (now (starts .entry)) (now (ends .entry))) ⌝ }
+{
+    let Links { mast, prev, list } = links_at(message, starts, ends);
+    let Details {
+        trad,
+        sett,
+        price,
+        side,
+        kind,
+    } = details_at(message, starts, ends);
+    let Security {
+        par,
+        cusip,
+        pool,
+        service,
+        period,
+        reason,
+    } = security_at(message, starts, ends);
+    Trade {
+        password: text_at(message, starts, ends, 28),
+        sender: text_at(message, starts, ends, 29),
+        seme: text_at(message, starts, ends, 1),
+        prep: moment_at(message, starts, ends, 3),
+        mast,
+        prev,
+        list,
+        trad,
+        sett,
+        price,
+        side,
+        kind,
+        buyer: party_at(message, starts, ends, 12, 13, 14),
+        seller: party_at(message, starts, ends, 15, 16, 17),
+        par,
+        cusip,
+        pool,
+        service,
+        period,
+        reason,
     }
 }
