@@ -2,9 +2,14 @@
 //
 // Nothing here knows a message type: its table is lent as bytes. What is right stands in specs/Search.
 use layout::Place;
+use layout::Step;
+use lines::Line;
 ghost use mathlib.Core.Path.{_≡_};
-ghost use Prim.Native.Nat.{_-_, _≤_};
+ghost use Prim.Native.Nat.{_-_, _≤_, _<_};
+ghost use lib.ListN.{length, take, drop, set};
+ghost use Rattle.lines.specs.Lines.{lineAt};
 ghost use Rattle.layout.specs.Rows.{rowsOf};
+ghost use Rattle.layout.specs.Layout.{stepOf};
 ghost use Rattle.search.specs.Search.{spanOf};
 
 // A part of a message: where it begins, and how many bytes it has.
@@ -40,6 +45,26 @@ fn rest_of(from: usize, end: usize, front: usize) -> Span
     }
 }
 
+// A line, and what the table says of it.
+struct Turn {
+    line: Line,
+    step: Step,
+}
+
+// Holds the line that begins at a place against the table; its slot is seen from then on.
+fn turn_at(message: &[u8], rows: &[u8], here: Place, seen: &mut [u8], at: usize) -> Turn
+    requires { ⌜ at < length (now message) ⌝ }
+    ensures { λ r. ⌜ (r .line ≡ lineAt (now (message .entry)) at)
+        × (r .step ≡ stepOf (rowsOf (now (rows .entry))) here (now (seen .entry)) (take (r .line .end - at) (drop at (now (message .entry)))))
+        × (now (seen .exit) ≡ set (now (seen .entry)) (r .step .slot) 1) ⌝ }
+{
+    let line = lines::line_at(message, at);
+    let stop = line.end;
+    let step = layout::next_step(rows, here, seen, &message[at..stop]);
+    layout::mark(seen, step.slot);
+    Turn { line, step }
+}
+
 // Searches the lines behind the four of the header for that of a slot, and answers its value without so many of its first bytes.
 // The outer loop goes from block to block, and the inner one over the lines up to a block's next edge; each is held against the
 // table, and a line that it refuses ends the search, as does the one that is taken for the slot.
@@ -54,22 +79,19 @@ pub fn find(message: &[u8], rows: &[u8], wanted: usize, front: usize) -> Span
             break Span::NOTHING;
         }
         while at < message.len() {
-            let line = lines::line_at(message, at);
-            let stop = line.end;
-            let step = layout::next_step(rows, here, &seen, &message[at..stop]);
-            if step.number != 0 {
+            let turn = turn_at(message, rows, here, &mut seen, at);
+            if turn.step.number != 0 {
                 break 'blocks Span::NOTHING;
             }
-            let slot = step.slot;
-            let value = at + step.width;
-            layout::mark(&mut seen, slot);
-            here = step.place;
-            at = line.next;
+            let slot = turn.step.slot;
+            let value = at + turn.step.width;
+            here = turn.step.place;
+            at = turn.line.next;
             if slot == 0 {
                 break;
             }
             if slot == wanted {
-                break 'blocks rest_of(value, stop, front);
+                break 'blocks rest_of(value, turn.line.end, front);
             }
         }
     }

@@ -26,8 +26,24 @@ pub fn put_values(text: &mut [u8], places: &mut [usize; 31], trade: Trade)
     places[1] = 0;
     let details = slots::put_general(text, places, trade);
     let buyer = slots::put_details(text, places, details, trade);
-    let seller = slots::put_party(text, places, buyer, 13, trade.buyer);
-    let security = slots::put_party(text, places, seller, 16, trade.seller);
+    let seller = slots::put_three(
+        text,
+        places,
+        buyer,
+        13,
+        trade.buyer.code,
+        trade.buyer.reference,
+        trade.buyer.trader,
+    );
+    let security = slots::put_three(
+        text,
+        places,
+        seller,
+        16,
+        trade.seller.code,
+        trade.seller.reference,
+        trade.seller.trader,
+    );
     let header = slots::put_security(text, places, security, trade);
     slots::put_header(text, places, header, trade.password, trade.sender);
 }

@@ -4,7 +4,8 @@
 use super::narrative;
 use super::words;
 use text::Text;
-use trade::Party;
+use trade::Kind;
+use trade::Side;
 use trade::Trade;
 ghost use mathlib.Core.Path.{_≡_};
 ghost use mathlib.Core.List.{[], _∷_};
@@ -14,7 +15,7 @@ ghost use lib.Seq.{sets};
 ghost use Rattle.text.specs.Texts.{contents};
 ghost use Rattle.text.specs.Copy.{placed, after};
 ghost use Rattle.fill.specs.Runs.{overRun, behindRun, flat};
-ghost use Rattle.values.specs.Values.{values};
+ghost use Rattle.values.specs.Values.{values, sideWord, kindWord};
 ghost use Rattle.values.specs.Places.{ends};
 
 // Only the text is put, and not the zero bytes behind it.
@@ -36,6 +37,29 @@ fn keep(places: &mut [usize], k: usize, ends: &[usize])
     }
 }
 
+// Three texts: MAST, PREV and LIST, or the code, the contra reference and the trader of a party.
+pub(crate) fn put_three(
+    text: &mut [u8],
+    places: &mut [usize],
+    at: usize,
+    k: usize,
+    first: Text,
+    second: Text,
+    third: Text,
+) -> usize
+    requires { ⌜ k + 3 ≤ length (now places) ⌝ }
+    ensures { λ r. ⌜ (r ≡ behindRun (now (text .entry)) at (contents first ∷ contents second ∷ contents third ∷ []))
+        × (now (text .exit) ≡ overRun (now (text .entry)) at (contents first ∷ contents second ∷ contents third ∷ []))
+        × (now (places .exit) ≡ sets (now (places .entry)) k (ends (now (text .entry)) at (contents first ∷ contents second ∷ contents third ∷ [])))
+        × (length (flat (contents first ∷ contents second ∷ contents third ∷ [])) ≤ 60) ⌝ }
+{
+    let one = put_text(text, at, first);
+    let two = put_text(text, one, second);
+    let three = put_text(text, two, third);
+    keep(places, k, &[one, two, three]);
+    three
+}
+
 // SEME, 23G, PREP, MAST, PREV and LIST.
 pub(crate) fn put_general(text: &mut [u8], places: &mut [usize], trade: Trade) -> usize
     requires { ⌜ length (now places) ≡ 31 ⌝ }
@@ -48,11 +72,22 @@ pub(crate) fn put_general(text: &mut [u8], places: &mut [usize], trade: Trade) -
     let seme = put_text(text, 0, trade.seme);
     let function = text::put(text, seme, &words::function_word(kind));
     let prep = trade.prep.put(text, function);
-    let mast = put_text(text, prep, trade.mast);
-    let prev = put_text(text, mast, trade.prev);
-    let list = put_text(text, prev, trade.list);
-    keep(places, 2, &[seme, function, prep, mast, prev, list]);
-    list
+    keep(places, 2, &[seme, function, prep]);
+    put_three(text, places, prep, 5, trade.mast, trade.prev, trade.list)
+}
+
+// BUSE and PROC.
+fn put_words(text: &mut [u8], places: &mut [usize], at: usize, side: Side, kind: Kind) -> usize
+    requires { ⌜ length (now places) ≡ 31 ⌝ }
+    ensures { λ r. ⌜ (r ≡ behindRun (now (text .entry)) at (sideWord side ∷ kindWord kind ∷ []))
+        × (now (text .exit) ≡ overRun (now (text .entry)) at (sideWord side ∷ kindWord kind ∷ []))
+        × (now (places .exit) ≡ sets (now (places .entry)) 11 (ends (now (text .entry)) at (sideWord side ∷ kindWord kind ∷ [])))
+        × (length (flat (sideWord side ∷ kindWord kind ∷ [])) ≤ 8) ⌝ }
+{
+    let buse = text::put(text, at, &words::side_word(side));
+    let proc = text::put(text, buse, &words::kind_word(kind));
+    keep(places, 11, &[buse, proc]);
+    proc
 }
 
 // TRAD, SETT, DEAL, BUSE and PROC.
@@ -68,31 +103,8 @@ pub(crate) fn put_details(text: &mut [u8], places: &mut [usize], at: usize, trad
     let trad = trade.trad.put(text, at);
     let sett = trade.sett.put(text, trad);
     let price = trade.price.0.put(text, sett);
-    let buse = text::put(text, price, &words::side_word(side));
-    let proc = text::put(text, buse, &words::kind_word(kind));
-    keep(places, 8, &[trad, sett, price, buse, proc]);
-    proc
-}
-
-// The code, the contra reference and the trader of a party.
-pub(crate) fn put_party(
-    text: &mut [u8],
-    places: &mut [usize],
-    at: usize,
-    k: usize,
-    party: Party,
-) -> usize
-    requires { ⌜ k + 3 ≤ length (now places) ⌝ }
-    ensures { λ r. ⌜ (r ≡ behindRun (now (text .entry)) at (contents (party .code) ∷ contents (party .reference) ∷ contents (party .trader) ∷ []))
-        × (now (text .exit) ≡ overRun (now (text .entry)) at (contents (party .code) ∷ contents (party .reference) ∷ contents (party .trader) ∷ []))
-        × (now (places .exit) ≡ sets (now (places .entry)) k (ends (now (text .entry)) at (contents (party .code) ∷ contents (party .reference) ∷ contents (party .trader) ∷ [])))
-        × (length (flat (contents (party .code) ∷ contents (party .reference) ∷ contents (party .trader) ∷ [])) ≤ 60) ⌝ }
-{
-    let code = put_text(text, at, party.code);
-    let reference = put_text(text, code, party.reference);
-    let trader = put_text(text, reference, party.trader);
-    keep(places, k, &[code, reference, trader]);
-    trader
+    keep(places, 8, &[trad, sett, price]);
+    put_words(text, places, price, side, kind)
 }
 
 // Par, CUSIP, POOL and the narrative.

@@ -141,7 +141,7 @@ module _ (table : List Row) (slotOf : ℕ → Slot) (m starts₀ ends₀ : List 
           let s = starts-in in
           omega arith
 
-      pub value-part : take (line .end - (at + step .width)) (drop (at + step .width) m) ≡ drop (step .width) (take (line .end - at) (drop at m))
+      value-part : take (line .end - (at + step .width)) (drop (at + step .width) m) ≡ drop (step .width) (take (line .end - at) (drop at m))
       value-part = sym (drop-take m at (line .end) (step .width))
 
       rest : Run
@@ -178,7 +178,7 @@ module _ (table : List Row) (slotOf : ℕ → Slot) (m starts₀ ends₀ : List 
       module _ (good : step .number ≡ 0) (starts' ends' seen' : List ℕ) (fault' : Verdict)
           (s : starts' ≡ cond (eqb (step .slot) 0) starts (set starts (step .slot) (at + step .width + length (slotOf (step .slot) .fixed))))
           (e : ends' ≡ cond (eqb (step .slot) 0) ends (set ends (step .slot) (line .end))) (d : seen' ≡ set seen (step .slot) 1)
-          (f : fault' ≡ cond (eqb (step .slot) 0) fault (then fault (valueVerdict slotOf (record { slot = step .slot; line = n; value = drop (step .width) (take (line .end - at) (drop at m)) })))) where
+          (f : fault' ≡ cond (eqb (step .slot) 0) fault (then fault (valueVerdict slotOf (record { slot = step .slot; line = n; value = take (line .end - (at + step .width)) (drop (at + step .width) m) })))) where
         ahead-good : ahead seen here at n ≡ cond (eqb (step .slot) 0) rest (withTaken t rest)
         unfolding behind t
         ahead-good = ahead-is ∙ rw (eq-eqb (step .number) 0 good)
@@ -189,7 +189,7 @@ module _ (table : List Row) (slotOf : ℕ → Slot) (m starts₀ ends₀ : List 
 
         pub again : Kept starts' ends' seen' (step .place) fault' (line .next) (n + 1)
         unfolding run t text
-        again = go (eqb (step .slot) 0) refl s e f ahead-good
+        again = go (eqb (step .slot) 0) refl s e (rw value-part at f) ahead-good
           where
             go : (b : Bool) → eqb (step .slot) 0 ≡ b
                 → starts' ≡ cond b starts (set starts (step .slot) (at + step .width + length (slotOf (step .slot) .fixed)))

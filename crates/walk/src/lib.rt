@@ -6,9 +6,9 @@ use layout::Place;
 use lines::Verdict;
 ghost use mathlib.Core.Path.{_≡_};
 ghost use mathlib.Core.Bool.{cond};
-ghost use Prim.Native.Nat.{_+_, _<_, _^_};
+ghost use Prim.Native.Nat.{_+_, _-_, _≤_, _<_, _^_};
 ghost use lib.Dec.{eqb};
-ghost use lib.ListN.{length, set};
+ghost use lib.ListN.{length, take, drop, set};
 ghost use Rattle.lines.specs.Verdicts.{then};
 ghost use Rattle.layout.specs.Rows.{rowsOf};
 ghost use Rattle.forms.specs.Slots.{slotAt};
@@ -57,6 +57,28 @@ fn keep(
     stretches::keep(ends, slot, end);
 }
 
+// Takes the value of a line, from behind the text of its row to the line's end, for a slot: keeps where it stands, and answers the
+// first fault of the values with it.
+fn take_value(
+    message: &[u8],
+    slots: &[u8],
+    starts: &mut [usize],
+    ends: &mut [usize],
+    fault: Verdict,
+    slot: usize,
+    value: usize,
+    end: usize,
+    line: usize,
+) -> Verdict
+    requires { ⌜ (value ≤ end) × (end ≤ length (now message)) ⌝ }
+    ensures { λ r. ⌜ (r ≡ cond (eqb slot 0) fault (then fault (valueVerdict (slotAt (now (slots .entry))) (record { slot = slot; line = line; value = take (end - value) (drop value (now (message .entry))) }))))
+        × (now (starts .exit) ≡ cond (eqb slot 0) (now (starts .entry)) (set (now (starts .entry)) slot (value + length (slotAt (now (slots .entry)) slot .fixed))))
+        × (now (ends .exit) ≡ cond (eqb slot 0) (now (ends .entry)) (set (now (ends .entry)) slot end)) ⌝ }
+{
+    keep(slots, starts, ends, slot, value, end);
+    first_fault(slots, fault, slot, &message[value..end], line)
+}
+
 // Walks the lines behind the four of the header against a table. `starts` and `ends` are the places that are kept already; a
 // line that the table refuses leaves them as they were. A wrong value is answered behind the loop only, since the table may
 // refuse a later line.
@@ -91,8 +113,17 @@ pub fn walk(
         }
         let slot = step.slot;
         let value = at + step.width;
-        fault = first_fault(slots, fault, slot, &message[value..stop], n);
-        keep(slots, &mut begun, &mut ended, slot, value, stop);
+        fault = take_value(
+            message,
+            slots,
+            &mut begun,
+            &mut ended,
+            fault,
+            slot,
+            value,
+            stop,
+            n,
+        );
         layout::mark(&mut seen, slot);
         here = step.place;
         at = line.next;

@@ -31,11 +31,11 @@ put-general-requires c κs = search needs
 put-details-requires : tie.Need-put-details-requires
 put-details-requires c κs = search needs
 
-put-party-requires : tie.Need-put-party-requires
-put-party-requires c κs = search needs
+put-three-requires : tie.Need-put-three-requires
+put-three-requires c κs = search needs
 
-put-party-requires-2 : tie.Need-put-party-requires-2
-put-party-requires-2 c κs = search needs
+put-three-requires-2 : tie.Need-put-three-requires-2
+put-three-requires-2 c κs = search needs
 
 put-security-requires : tie.Need-put-security-requires
 put-security-requires c κs = search needs
@@ -43,34 +43,43 @@ put-security-requires c κs = search needs
 put-header-requires : tie.Need-put-header-requires
 put-header-requires c κs = search needs
 
--- the blocks, one behind the other
+-- the blocks, from the last to the first
+abbrev header : tie.After-slice-known7 → tie.After-put-header
+header c = c .before .before
+
+abbrev security : tie.After-slice-known7 → tie.After-put-security
+security c = header c .before .before .before .before .before
+
+abbrev seller : tie.After-slice-known7 → tie.After-put-three2
+seller c = security c .before .before .before .before .before
+
+abbrev buyer : tie.After-slice-known7 → tie.After-put-three
+buyer c = seller c .before .before .before .before .before
+
+abbrev details : tie.After-slice-known7 → tie.After-put-details
+details c = buyer c .before .before .before .before .before
+
 abbrev general : tie.After-slice-known7 → tie.After-put-general
-general c = c .before .before .before .before .before .before .before .before .before .before .before .before .before .before .before .before .before .before .before .before .before .before .before .before .before .before .before
+general c = details c .before .before .before .before .before
 
 abbrev start : tie.After-slice-known7 → tie.Start
 start c = general c .before .before .before .before
 
-put : (c : tie.After-slice-known7) → (c .before .before .put-header .last .0 ≡ overRun (start c .args .text .now) 0 (values (start c .args .trade)))
-    × (c .before .before .put-header .last .1 .0 ≡ 0 ∷ ends (start c .args .text .now) 0 (values (start c .args .trade)))
+put : (c : tie.After-slice-known7) → (header c .put-header .last .0 ≡ overRun (start c .args .text .now) 0 (values (start c .args .trade)))
+    × (header c .put-header .last .1 .0 ≡ 0 ∷ ends (start c .args .text .now) 0 (values (start c .args .trade)))
     × (length (flat (values (start c .args .trade))) ≤ 398)
 unfolding values
 put c =
-    let h = c .before .before in
-    let s = h .before .before .before .before .before in
-    let q = s .before .before .before .before .before in
-    let p = q .before .before .before .before .before in
-    let d = p .before .before .before .before .before in
-    let g = general c in
     let a = start c .args in
     let text = a .text .now in
     let ps = set (a .places .now) 0 0 in
-    all-places text (a .places .now) (values (a .trade)) 398 (many (g .before))
+    all-places text (a .places .now) (values (a .trade)) 398 (many (general c .before))
     (more text ps 0 1 2 ([] ∷ []) _ 0 398 refl (stored text ps 0 1 ([] ∷ []) (0 ∷ []) 0 (none-kept text 0) refl)
-    (more _ _ _ 2 8 _ _ 98 300 refl (g .put-general .ensures)
-    (more _ _ _ 8 13 _ _ 45 255 refl (d .put-details .ensures)
-    (more _ _ _ 13 16 _ _ 60 195 refl (p .put-party .ensures)
-    (more _ _ _ 16 19 _ _ 60 135 refl (q .put-party2 .ensures)
-    (more _ _ _ 19 23 _ _ 95 40 refl (s .put-security .ensures) (h .put-header .ensures)))))))
+    (more _ _ _ 2 8 _ _ 98 300 refl (general c .put-general .ensures)
+    (more _ _ _ 8 13 _ _ 45 255 refl (details c .put-details .ensures)
+    (more _ _ _ 13 16 _ _ 60 195 refl (buyer c .put-three .ensures)
+    (more _ _ _ 16 19 _ _ 60 135 refl (seller c .put-three2 .ensures)
+    (more _ _ _ 19 23 _ _ 95 40 refl (security c .put-security .ensures) (header c .put-header .ensures)))))))
 
 same-length : tie.Need-same-length
 same-length c = ap length (put c .0) ∙ length-run _ _ _
@@ -86,8 +95,8 @@ put-values-spec =
     element-write-places-2
     put-general-requires
     put-details-requires
-    put-party-requires
-    put-party-requires-2
+    put-three-requires
+    put-three-requires-2
     put-security-requires
     put-header-requires
     same-length

@@ -1,20 +1,15 @@
 -- `walk::walk` meets its contract. The loop's invariant: the lines taken so far and those ahead are all that the walk comes to.
 -- Assumes nothing.
-use Prim.Native.Nat.{ℕ, _+_, _-_, _≤_}
-use mathlib.Core.Path.{ap, _∙_}
-use mathlib.Core.Bool.{cond}
-use mathlib.Core.List.{List}
-use lib.Dec.{eqb}
+use Prim.Native.Nat.{_+_, _-_, _≤_}
 use lib.ListN.{length}
 use native.Mathlib.Omega.{arith}
 use borrow.Author.Needs.{needs}
 use denote.Ref.{now}
-use Rattle.lines.specs.Verdicts.{refused, pass, then}
+use Rattle.lines.specs.Verdicts.{refused, pass}
 use Rattle.lines.proofs.Laws.{Located, located}
 use Rattle.layout.specs.Rows.{rowsOf}
 use Rattle.forms.specs.Slots.{slotAt}
-use Rattle.walk.specs.Walk.{valueVerdict}
-use Rattle.walk.proofs.Turns.{Kept, begin, width-in, value-part, refusal, again, over}
+use Rattle.walk.proofs.Turns.{Kept, begin, width-in, refusal, again, over}
 use Rattle.walk.proofs.walk.Statement.{statement}
 use Rattle.walk.proofs.walk.Tie as tie
 
@@ -69,26 +64,14 @@ returns c =
 add-value : tie.Need-add-value Inv-loop μ-loop
 add-value c = let w = within (c .before .before) in let t = stops (c .before .before .before .before .before) in omega arith
 
-sub-first-fault : tie.Need-sub-first-fault Inv-loop μ-loop
-sub-first-fault c = within (c .before .before)
+slice-aggregate-take-value : tie.Need-slice-aggregate-take-value Inv-loop μ-loop
+slice-aggregate-take-value c = search needs
 
-part-first-fault-start : tie.Need-part-first-fault-start Inv-loop μ-loop
-part-first-fault-start c = within (c .before .before)
+slice-aggregate-take-value-2 : tie.Need-slice-aggregate-take-value-2 Inv-loop μ-loop
+slice-aggregate-take-value-2 c = search needs
 
-part-first-fault-end : tie.Need-part-first-fault-end Inv-loop μ-loop
-part-first-fault-end c = stops (c .before .before .before .before .before)
-
-first-fault-requires : tie.Need-first-fault-requires Inv-loop μ-loop
-first-fault-requires c κs = search needs
-
-slice-aggregate-keep : tie.Need-slice-aggregate-keep Inv-loop μ-loop
-slice-aggregate-keep c = search needs
-
-slice-aggregate-keep-2 : tie.Need-slice-aggregate-keep-2 Inv-loop μ-loop
-slice-aggregate-keep-2 c = search needs
-
-keep-requires : tie.Need-keep-requires Inv-loop μ-loop
-keep-requires c κs = let w = within (c .before .before .before .before .before .before) in let t = stops (c .before .before .before .before .before .before .before .before .before) in omega (arith, w, t, c .before .before .before .before .before .before .before .before .before .before .before .before .before .before .before .before .good .0 .1)
+take-value-requires : tie.Need-take-value-requires Inv-loop μ-loop
+take-value-requires c κs = let s = c .before .before .before .before in (within s, stops (s .before .before .before))
 
 slice-aggregate-mark : tie.Need-slice-aggregate-mark Inv-loop μ-loop
 slice-aggregate-mark c = search needs
@@ -96,27 +79,31 @@ slice-aggregate-mark c = search needs
 mark-requires : tie.Need-mark-requires Inv-loop μ-loop
 mark-requires c κs = search needs
 
+-- behind a turn: where its value was taken, and its line
+abbrev took : tie.After-here Inv-loop μ-loop → tie.After-take-value Inv-loop μ-loop
+took c = c .before .before .before .before .before .before
+
+abbrev line : tie.After-here Inv-loop μ-loop → tie.After-line-at Inv-loop μ-loop
+line c = took c .before .before .before .before .before .before .before .before
+
 add-n : tie.Need-add-n Inv-loop μ-loop
 add-n c =
-    let l = c .before .before .before .before .before .before .before .before .before .before .before .before .before .before .before .before in
+    let l = line c in
     let p = place l in
     let k = l .before .before .loop .inv in
     omega (arith, k .few, k .count, p .grows, p .within, l .before .before .before .before .before .before .before .good .0 .1)
 
 loop-less : tie.Need-loop-less Inv-loop μ-loop
-loop-less c = let p = place (c .before .before .before .before .before .before .before .before .before .before .before .before .before .before .before .before) in omega (arith, p .grows, p .within)
+loop-less c = let p = place (line c) in omega (arith, p .grows, p .within)
 
 loop-again : tie.Need-loop-again Inv-loop μ-loop
 loop-again c =
-    let kept = c .before .before .before .before .before .before .keep .ensures in
-    let f = c .before .before .before .before .before .before .before .before .before in
-    let s = c .before .before .before .before .before .before .before .before .before .before .before .before .before in
-    let l = s .before .before .before in
+    let t = took c .take-value .ensures in
+    let e = took c .before .before .before .before in
+    let s = e .before in
+    let l = line c in
     let a = l .before .before .loop in
-    let step = s .next-step .result in
-    let v = value-part _ _ _ _ _ _ _ _ _ _ _ _ (a .inv) _ (l .line-at .ensures) (l .before .loop-test .taken) _ (s .next-step .ensures) in
-    again _ _ _ _ _ _ _ _ _ _ _ _ (a .inv) _ (l .line-at .ensures) (l .before .loop-test .taken) _ (s .next-step .ensures) (c .before .before .before .before .before .before .before .before .before .before .before .before .if1 .left) _ _ _ _ (kept .0) (kept .1) (c .before .before .mark .ensures)
-    (f .first-fault .ensures ∙ ap (λ (x : List ℕ). cond (eqb (step .slot) 0) (a .fault) (then (a .fault) (valueVerdict (slotAt (now (l .before .before .before .before .before .before .before .args .slots))) (record { slot = step .slot; line = a .n; value = x })))) v)
+    again _ _ _ _ _ _ _ _ _ _ _ _ (a .inv) _ (l .line-at .ensures) (l .before .loop-test .taken) _ (s .next-step .ensures) (e .if1 .left) _ _ _ _ (t .1) (t .2) (c .before .before .mark .ensures) (t .0)
 
 returns-2 : tie.Need-returns-2 Inv-loop μ-loop
 returns-2 c = over _ _ _ _ _ _ _ _ _ _ _ _ (c .before .loop .inv) (c .loop-test .left)
@@ -137,13 +124,9 @@ walk-spec =
     next-step-requires
     returns
     add-value
-    sub-first-fault
-    part-first-fault-start
-    part-first-fault-end
-    first-fault-requires
-    slice-aggregate-keep
-    slice-aggregate-keep-2
-    keep-requires
+    slice-aggregate-take-value
+    slice-aggregate-take-value-2
+    take-value-requires
     slice-aggregate-mark
     mark-requires
     add-n

@@ -1,7 +1,8 @@
 -- `values::slots::put_general` meets its contract. Assumes nothing.
+use mathlib.Core.Path.{refl}
 use mathlib.Core.List.{[], _∷_}
 use Rattle.values.specs.Values.{values}
-use Rattle.values.proofs.Places.{kept, behind, stored}
+use Rattle.values.proofs.Places.{kept, behind, stored, more}
 use Rattle.values.proofs.Turns.{moment-most, word-most, function-four}
 use borrow.Author.Needs.{needs}
 use Rattle.values.proofs.slots.put_general.Statement.{statement}
@@ -23,20 +24,14 @@ put-requires c κs = search needs
 put-requires-2 : tie.Need-put-requires-2
 put-requires-2 c κs = search needs
 
-put-text-requires-2 : tie.Need-put-text-requires-2
-put-text-requires-2 c κs = search needs
-
-put-text-requires-3 : tie.Need-put-text-requires-3
-put-text-requires-3 c κs = search needs
-
-put-text-requires-4 : tie.Need-put-text-requires-4
-put-text-requires-4 c κs = search needs
-
 slice-aggregate-keep : tie.Need-slice-aggregate-keep
 slice-aggregate-keep c = search needs
 
 keep-requires : tie.Need-keep-requires
 keep-requires c κs = search needs
+
+put-three-requires : tie.Need-put-three-requires
+put-three-requires c κs = search needs
 
 same-length : tie.Need-same-length
 same-length c = search needs
@@ -47,16 +42,20 @@ same-length-2 c = search needs
 returns : tie.Need-returns
 unfolding values
 returns c =
-    let w = c .before .before .before .before .before .before .before .before .before .before .before .before .before .before .before .before .before .before .before .before .before .before .before .before .before .function-word in
-    rw (← w .ensures)
-    (stored _ _ _ _ _ _ 98
-    (behind _ _ (_ ∷ []) _ (_ ∷ []) _ 20 78 (kept _ _ _ 20 (c .before .before .before .before .before .before .before .before .before .before .before .before .before .before .before .before .before .before .before .before .before .before .before .before .before .before .before .before .before .put-text .ensures))
-    (behind _ _ (_ ∷ []) _ (_ ∷ []) _ 4 74 (kept _ _ _ 4 (let e = c .before .before .before .before .before .before .before .before .before .before .before .before .before .before .before .before .before .before .before .before .before .before .before .put .ensures in (e .0, e .1, word-most _ _ (w .ensures) (function-four _))))
-    (behind _ _ (_ ∷ []) _ (_ ∷ []) _ 14 60 (kept _ _ _ 14 (let e = c .before .before .before .before .before .before .before .before .before .before .before .before .before .before .before .before .before .before .before .put2 .ensures in (e .0, e .1, moment-most _)))
-    (behind _ _ (_ ∷ []) _ (_ ∷ []) _ 20 40 (kept _ _ _ 20 (c .before .before .before .before .before .before .before .before .before .before .before .before .before .before .before .put-text2 .ensures))
-    (behind _ _ (_ ∷ []) (_ ∷ []) (_ ∷ []) _ 20 20 (kept _ _ _ 20 (c .before .before .before .before .before .before .before .before .before .before .before .put-text3 .ensures))
-    (kept _ _ _ 20 (c .before .before .before .before .before .before .before .put-text4 .ensures)))))))
-    (c .before .before .keep .ensures))
+    let three = c .before .before .before .before in
+    let kept-here = three .before .before .before .before .before in
+    let prep = kept-here .before .before .before .before .before in
+    let function = prep .before .before .before .before in
+    let word = function .before .before .function-word .ensures in
+    let seme = function .before .before .before .before .before .before in
+    rw (← word)
+    (more _ _ _ 2 5 _ _ 38 60 refl
+    (stored _ _ _ _ _ _ 38
+    (behind _ _ (_ ∷ []) _ (_ ∷ []) _ 20 18 (kept _ _ _ 20 (seme .put-text .ensures))
+    (behind _ _ (_ ∷ []) (_ ∷ []) (_ ∷ []) _ 4 14 (kept _ _ _ 4 (let e = function .put .ensures in (e .0, e .1, word-most _ _ word (function-four _))))
+    (kept _ _ _ 14 (let e = prep .put2 .ensures in (e .0, e .1, moment-most _)))))
+    (kept-here .keep .ensures))
+    (three .put-three .ensures))
 
 pub put-general-spec : {M : Type 1} → statement M
 put-general-spec =
@@ -67,11 +66,9 @@ put-general-spec =
     slice-aggregate-put
     put-requires
     put-requires-2
-    put-text-requires-2
-    put-text-requires-3
-    put-text-requires-4
     slice-aggregate-keep
     keep-requires
+    put-three-requires
     same-length
     same-length-2
     returns)

@@ -25,6 +25,8 @@ same-length-2 c = search needs
 
 returns : tie.Need-returns
 returns c =
+    let second = c .before .before .before .before .before .before .before in
+    let first = second .before .before .before .before in
     stored _ _ _ _ _ _ 40
     (behind _ _ ([] ∷ []) _ (_ ∷ []) _ 0 40 (none-kept _ _)
     (behind _ _ ([] ∷ []) _ (_ ∷ []) _ 0 40 (none-kept _ _)
@@ -32,7 +34,7 @@ returns c =
     (behind _ _ ([] ∷ []) _ (_ ∷ []) _ 0 40 (none-kept _ _)
     (behind _ _ ([] ∷ []) _ (_ ∷ []) _ 0 40 (none-kept _ _)
     (behind _ _ ([] ∷ []) _ (_ ∷ []) _ 0 40 (none-kept _ _)
-    (behind _ _ (_ ∷ []) (_ ∷ []) (_ ∷ []) _ 20 20 (kept _ _ _ 20 (c .before .before .before .before .before .before .before .before .before .before .before .put-text .ensures)) (kept _ _ _ 20 (c .before .before .before .before .before .before .before .put-text2 .ensures)))))))))
+    (behind _ _ (_ ∷ []) (_ ∷ []) (_ ∷ []) _ 20 20 (kept _ _ _ 20 (first .put-text .ensures)) (kept _ _ _ 20 (second .put-text2 .ensures)))))))))
     (c .before .before .keep .ensures)
 
 pub put-header-spec : {M : Type 1} → statement M

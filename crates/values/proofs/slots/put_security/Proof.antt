@@ -34,11 +34,15 @@ same-length-2 c = search needs
 returns : tie.Need-returns
 unfolding values
 returns c =
+    let told = c .before .before .before .before .before .before .before in
+    let pool = told .before .before .before .before in
+    let cusip = pool .before .before .before .before in
+    let par = cusip .before .before .before .before in
     stored _ _ _ _ _ _ 95
-    (behind _ _ (_ ∷ []) _ (_ ∷ []) _ 15 80 (kept _ _ _ 15 (let e = c .before .before .before .before .before .before .before .before .before .before .before .before .before .before .before .before .before .before .before .put .ensures in (e .0, e .1, amount-most _)))
-    (behind _ _ (_ ∷ []) _ (_ ∷ []) _ 20 60 (kept _ _ _ 20 (c .before .before .before .before .before .before .before .before .before .before .before .before .before .before .before .put-text .ensures))
-    (behind _ _ (_ ∷ []) (_ ∷ []) (_ ∷ []) _ 20 40 (kept _ _ _ 20 (c .before .before .before .before .before .before .before .before .before .before .before .put-text2 .ensures))
-    (kept _ _ _ 40 (c .before .before .before .before .before .before .before .put-narrative .ensures)))))
+    (behind _ _ (_ ∷ []) _ (_ ∷ []) _ 15 80 (kept _ _ _ 15 (let e = par .put .ensures in (e .0, e .1, amount-most _)))
+    (behind _ _ (_ ∷ []) _ (_ ∷ []) _ 20 60 (kept _ _ _ 20 (cusip .put-text .ensures))
+    (behind _ _ (_ ∷ []) (_ ∷ []) (_ ∷ []) _ 20 40 (kept _ _ _ 20 (pool .put-text2 .ensures))
+    (kept _ _ _ 40 (told .put-narrative .ensures)))))
     (c .before .before .keep .ensures)
 
 pub put-security-spec : {M : Type 1} → statement M

@@ -1,9 +1,9 @@
--- `values::slots::put_party` meets its contract. Assumes nothing.
+-- `values::slots::put_three` meets its contract. Assumes nothing.
 use mathlib.Core.List.{[], _∷_}
 use Rattle.values.proofs.Places.{kept, behind, stored}
 use borrow.Author.Needs.{needs}
-use Rattle.values.proofs.slots.put_party.Statement.{statement}
-use Rattle.values.proofs.slots.put_party.Tie as tie
+use Rattle.values.proofs.slots.put_three.Statement.{statement}
+use Rattle.values.proofs.slots.put_three.Tie as tie
 
 put-text-requires : tie.Need-put-text-requires
 put-text-requires c κs = search needs
@@ -28,14 +28,17 @@ same-length-2 c = search needs
 
 returns : tie.Need-returns
 returns c =
+    let three = c .before .before .before .before .before .before .before in
+    let two = three .before .before .before .before in
+    let one = two .before .before .before .before in
     stored _ _ _ _ _ _ 60
-    (behind _ _ (_ ∷ []) _ (_ ∷ []) _ 20 40 (kept _ _ _ 20 (c .before .before .before .before .before .before .before .before .before .before .before .before .before .before .before .put-text .ensures))
-    (behind _ _ (_ ∷ []) (_ ∷ []) (_ ∷ []) _ 20 20 (kept _ _ _ 20 (c .before .before .before .before .before .before .before .before .before .before .before .put-text2 .ensures))
-    (kept _ _ _ 20 (c .before .before .before .before .before .before .before .put-text3 .ensures))))
+    (behind _ _ (_ ∷ []) _ (_ ∷ []) _ 20 40 (kept _ _ _ 20 (one .put-text .ensures))
+    (behind _ _ (_ ∷ []) (_ ∷ []) (_ ∷ []) _ 20 20 (kept _ _ _ 20 (two .put-text2 .ensures))
+    (kept _ _ _ 20 (three .put-text3 .ensures))))
     (c .before .before .keep .ensures)
 
-pub put-party-spec : {M : Type 1} → statement M
-put-party-spec =
+pub put-three-spec : {M : Type 1} → statement M
+put-three-spec =
     tie.close
     (tie.spec
     put-text-requires
