@@ -18,7 +18,7 @@ use Rattle.calendar.specs.Dates.{dateRead, dateFrom, momentRead, momentFrom}
 use Rattle.forms.specs.Forms.{valueNumber, formNumber, unless, isWord, wordAt}
 use Rattle.forms.specs.Narrative.{isNarrative}
 use Rattle.forms.proofs.Laws.{unless-good, value-begins}
-use Rattle.table.specs.Table.{slots, slotOf, fixedOf, numberOf}
+use Rattle.table.specs.Table.{slots, slotOf}
 use Rattle.sheets.specs.Slots.{fieldSlots, ownSlots, memberSlots, slotsOf}
 use Rattle.sheets.specs.Sheets.{has}
 use Rattle.format.specs.Field.{frontOf}
@@ -35,41 +35,40 @@ named slot h = (leb-true 1 slot (and-left (leb 1 slot) _ h), leb-true slot 21 (a
 -- ---- the narrative
 
 -- it begins with its word
-pub told-begins : (v : List ℕ) → valueNumber (slotOf 21) (fixedOf 21 ++ v) ≡ 0 → begins (bytes "/TDSV") v ≡ true
+pub told-begins : (v : List ℕ) → valueNumber (slotOf 21) (slotOf 21 .fixed ++ v) ≡ 0 → begins (bytes "/TDSV") v ≡ true
 unfolding slotOf slots formNumber isNarrative
 told-begins v h = and-left _ _ (unless-good (isNarrative v) (sym (number-form (slotOf 21) v) ∙ h))
 
 -- ---- every slot
 
 -- no fixed text alone is a value: one test over the slots, and the rule at each
-more : (slot : ℕ) → 1 ≤ slot → slot < 21 → numberOf slot (fixedOf slot) ≡ 0 → ⊥
-unfolding allBelow numberOf slotOf slots bytes begins before valueNumber formNumber unless isCode isWord wordAt same amountRead isAmount whole dateRead dateFrom momentRead momentFrom Numerals.fixedOf
+more : (slot : ℕ) → 1 ≤ slot → slot < 21 → valueNumber (slotOf slot) (slotOf slot .fixed) ≡ 0 → ⊥
+unfolding allBelow slotOf slots bytes begins before valueNumber formNumber unless isCode isWord wordAt same amountRead isAmount whole dateRead dateFrom momentRead momentFrom Numerals.fixedOf
 more slot low high h =
-    let t = all-at 21 (λ i. not (leb 1 i) || not (eqb (numberOf i (fixedOf i)) 0)) refl slot high in
-    eqb-false (numberOf slot (fixedOf slot)) 0 (not-true _ (rw (le-leb 1 slot low) at t)) h
+    let t = all-at 21 (λ i. not (leb 1 i) || not (eqb (valueNumber (slotOf i) (slotOf i .fixed)) 0)) refl slot high in
+    eqb-false (valueNumber (slotOf slot) (slotOf slot .fixed)) 0 (not-true _ (rw (le-leb 1 slot low) at t)) h
 
 -- what follows the fixed text
-behind-fixed : (slot : ℕ) (v : List ℕ) → 1 ≤ slot → slot < 21 → numberOf slot v ≡ 0 → length (fixedOf slot) < length v
-unfolding numberOf
-behind-fixed slot v low high h = go (drop (length (fixedOf slot)) v) (begins-is (fixedOf slot) v (value-begins (slotOf slot) v h))
+behind-fixed : (slot : ℕ) (v : List ℕ) → 1 ≤ slot → slot < 21 → valueNumber (slotOf slot) v ≡ 0 → length (slotOf slot .fixed) < length v
+behind-fixed slot v low high h = go (drop (length (slotOf slot .fixed)) v) (begins-is (slotOf slot .fixed) v (value-begins (slotOf slot) v h))
   where
-    go : (rest : List ℕ) → v ≡ fixedOf slot ++ rest → length (fixedOf slot) < length v
-    go [] e = absurd (more slot low high (rw (e, append-nil (fixedOf slot)) at h))
-    go (b ∷ rest) e = let l = length-append (fixedOf slot) (b ∷ rest) in let m = ap length e in omega arith
+    go : (rest : List ℕ) → v ≡ slotOf slot .fixed ++ rest → length (slotOf slot .fixed) < length v
+    go [] e = absurd (more slot low high (rw (e, append-nil (slotOf slot .fixed)) at h))
+    go (b ∷ rest) e = let l = length-append (slotOf slot .fixed) (b ∷ rest) in let m = ap length e in omega arith
 
-behind-told : (v : List ℕ) → numberOf 21 v ≡ 0 → length (fixedOf 21) + 1 < length v
-unfolding bytes numberOf
+behind-told : (v : List ℕ) → valueNumber (slotOf 21) v ≡ 0 → length (slotOf 21 .fixed) + 1 < length v
+unfolding bytes
 behind-told v h =
-    let is = begins-is (fixedOf 21) v (value-begins (slotOf 21) v h) in
-    let l = begins-length (bytes "/TDSV") _ (told-begins (drop (length (fixedOf 21)) v) (rw is at h)) in
-    let d = length-drop (length (fixedOf 21)) v in
+    let is = begins-is (slotOf 21 .fixed) v (value-begins (slotOf 21) v h) in
+    let l = begins-length (bytes "/TDSV") _ (told-begins (drop (length (slotOf 21 .fixed)) v) (rw is at h)) in
+    let d = length-drop (length (slotOf 21 .fixed)) v in
     omega arith
 
 behind-front : (slot : ℕ) (v : List ℕ) → isBetween 1 21 slot ≡ true → valueNumber (slotOf slot) v ≡ 0 → frontOf mt515 slot < length v
-unfolding frontOf numberOf
+unfolding frontOf
 behind-front slot v n h = go (eqb slot 21) refl
   where
-    go : (b : Bool) → eqb slot 21 ≡ b → length (fixedOf slot) + cond b 1 0 < length v
+    go : (b : Bool) → eqb slot 21 ≡ b → length (slotOf slot .fixed) + cond b 1 0 < length v
     go true e = let q = eqb-true slot 21 e in rw q (behind-told v (rw q at h))
     go false e =
         let (low, high) = named slot n in

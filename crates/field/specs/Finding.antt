@@ -8,6 +8,8 @@ use lib.ListN.{length, take, drop}
 use Rattle.text.specs.Bytes.{bytes}
 use Rattle.text.specs.Classes.{isBetween}
 use Rattle.sheets.specs.Sheets.{come, has}
+use Rattle.trade.specs.Records.{narrativeSlot}
+use Rattle.table.specs.Table.{lastField}
 use Rattle.mt515.specs.Reading.{readOf}
 use Rattle.demands.specs.Demands.{saidIn, Lawful, Accepted}
 use Rattle.field.specs.Field.{fieldOf, placeOf}
@@ -29,19 +31,19 @@ abbrev pub IsRead : Type 0
 IsRead = (m : List ℕ) (w : Lawful m) (slot : ℕ) → isBetween 1 20 slot ≡ true → fieldOf m slot ≡ saidIn m (w .sheet) slot
 
 abbrev pub IsToldBehind : Type 0
-IsToldBehind = (m : List ℕ) (w : Lawful m) → saidIn m (w .sheet) 21 ≡ bytes "/" ++ fieldOf m 21
+IsToldBehind = (m : List ℕ) (w : Lawful m) → saidIn m (w .sheet) narrativeSlot ≡ bytes "/" ++ fieldOf m narrativeSlot
 
 -- nothing of a refused message, and nothing for a number that names no slot
 abbrev pub NoneRefused : Type 0
 NoneRefused = (m : List ℕ) (slot : ℕ) → (Accepted m → ⊥) → (placeOf m slot ≡ nowhere (readOf m .number)) × (fieldOf m slot ≡ [])
 
 abbrev pub NoneUnnamed : Type 0
-NoneUnnamed = (m : List ℕ) (slot : ℕ) → isBetween 1 21 slot ≡ false → (placeOf m slot ≡ nowhere (readOf m .number)) × (fieldOf m slot ≡ [])
+NoneUnnamed = (m : List ℕ) (slot : ℕ) → isBetween 1 lastField slot ≡ false → (placeOf m slot ≡ nowhere (readOf m .number)) × (fieldOf m slot ≡ [])
 
 -- of an accepted message, nothing for the slots that it does not have, and for no other: a value that is there is never empty
 abbrev pub NoneAbsent : Type 0
 NoneAbsent =
-    (m : List ℕ) (w : Lawful m) (slot : ℕ) → isBetween 1 21 slot ≡ true
+    (m : List ℕ) (w : Lawful m) (slot : ℕ) → isBetween 1 lastField slot ≡ true
     → (placeOf m slot ≡ nowhere 0) ↔ (has (come [] (w .sheet)) slot ≡ false)
 
 pub record Finding : Type 0 where

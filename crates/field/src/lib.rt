@@ -26,7 +26,7 @@ fn nowhere(number: u64) -> Stretch
 fn front_of(slot: usize) -> usize
     ensures { λ r. ⌜ r ≡ frontOf slot ⌝ }
 {
-    if slot == 21 {
+    if slot == trade::NARRATIVE {
         table::fixed_length(slot) + 1
     } else {
         table::fixed_length(slot)
@@ -44,7 +44,7 @@ pub fn place(message: &[u8], slot: usize) -> Stretch
     if slot < 1 {
         return nowhere(0);
     }
-    if 21 < slot {
+    if trade::NARRATIVE < slot {
         return nowhere(0);
     }
     let found = search::find(message, &table::TABLE, slot, front_of(slot));

@@ -12,7 +12,7 @@ use Rattle.text.specs.Bytes.{bytes}
 use Rattle.text.proofs.Laws.{and-left, and-right}
 use Rattle.forms.specs.Forms.{Slot, other}
 use Rattle.forms.specs.Notation.{slot}
-use Rattle.table.specs.Table.{slots, lines, slotOf, fixedOf}
+use Rattle.table.specs.Table.{slots, lines, slotOf}
 
 -- a fixed text has at most sixteen bytes: one test over all slots, and the rule at each
 abbrev short : List Slot → Bool
@@ -25,6 +25,6 @@ short-at [] i e = omega arith
 short-at (s ∷ ss) zero e = leb-true (length (s .fixed)) 16 (and-left _ _ e)
 short-at (s ∷ ss) (suc i) e = short-at ss i (and-right (leb (length (s .fixed)) 16) _ e)
 
-pub fixed-short : (i : ℕ) → length (fixedOf i) ≤ 16
+pub fixed-short : (i : ℕ) → length (slotOf i .fixed) ≤ 16
 unfolding slotOf slots bytes
 fixed-short i = short-at lines i refl

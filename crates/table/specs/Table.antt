@@ -1,13 +1,13 @@
 -- Document 01, "The slots, in order": the value of each slot of the MT515. Slots with a value are numbered from 1 as document 01
--- numbers its fields; 28, 29, 32 and 33 are the lines of the header, and 30 and 31 are lines behind it that are fixed. Which line
--- stands where is specs/Tree.
+-- numbers its fields; the lines of the header, and lines behind it that are fixed, have the numbers 28 to 33. Which line stands
+-- where is specs/Tree.
 use Prim.Native.Nat.{ℕ}
 use mathlib.Core.List.{List, [], _∷_, _++_, map}
 use lib.ListN.{getD}
 use Rattle.text.specs.Bytes.{bytes}
-use Rattle.forms.specs.Forms.{Slot, nothing, codes, words, amount, date, moment, narrative, other, valueNumber}
+use Rattle.forms.specs.Forms.{Slot, nothing, codes, words, amount, date, moment, narrative, other}
 use Rattle.forms.specs.Notation.{slot}
-use Rattle.trade.specs.Records.{sides, kinds}
+use Rattle.trade.specs.Records.{sides, kinds, narrativeSlot, passwordSlot, senderSlot}
 
 abbrev pub reference : Slot
 reference = slot "//" (codes 1 16)
@@ -18,6 +18,23 @@ none = slot "" nothing
 -- the words of 23G; those of BUSE and of PROC are the record's
 abbrev pub functions : List (List ℕ)
 functions = bytes "NEWM" ∷ bytes "CANC" ∷ []
+
+-- the fields that document 01 numbers are 1 to this, the narrative's
+abbrev pub lastField : ℕ
+lastField = narrativeSlot
+
+-- lines that are fixed: TRTR and PAYM, and of the header the message type and the receiver
+abbrev pub trtrSlot : ℕ
+trtrSlot = 30
+
+abbrev pub paymSlot : ℕ
+paymSlot = 31
+
+abbrev pub typeSlot : ℕ
+typeSlot = 32
+
+abbrev pub receiverSlot : ℕ
+receiverSlot = 33
 
 unfoldable pub slots : List Slot
 slots =
@@ -42,20 +59,20 @@ slots =
     ∷ slot "//FAMT/" amount  -- 18
     ∷ slot "/US/" (codes 9 9)  -- 19
     ∷ slot "/GSCC/" (codes 1 9)  -- 20
-    ∷ slot "//GSCC" narrative  -- 21
+    ∷ slot "//GSCC" narrative  -- 21, narrativeSlot
     ∷ none ∷ none ∷ none  -- 22 to 24
     ∷ none ∷ none ∷ none  -- 25 to 27
-    ∷ slot "" (codes 0 12)  -- 28, the password
-    ∷ slot "" (codes 1 8)  -- 29, the sender
-    ∷ slot "/GSCC/CASH" nothing  -- 30
-    ∷ slot "//APMT" nothing  -- 31
-    ∷ slot "515/000/GSCC" nothing  -- 32
-    ∷ slot "MBSCTRRS" nothing  -- 33
+    ∷ slot "" (codes 0 12)  -- 28, passwordSlot
+    ∷ slot "" (codes 1 8)  -- 29, senderSlot
+    ∷ slot "/GSCC/CASH" nothing  -- 30, trtrSlot
+    ∷ slot "//APMT" nothing  -- 31, paymSlot
+    ∷ slot "515/000/GSCC" nothing  -- 32, typeSlot
+    ∷ slot "MBSCTRRS" nothing  -- 33, receiverSlot
     ∷ []
 
 -- the slots of the header's lines
 unfoldable pub header : List ℕ
-header = 28 ∷ 29 ∷ 32 ∷ 33 ∷ []
+header = passwordSlot ∷ senderSlot ∷ typeSlot ∷ receiverSlot ∷ []
 
 -- the lines of a program's bytes: behind the slots, in lines that no row names, stand the words
 abbrev pub lines : List Slot
@@ -63,10 +80,3 @@ lines = slots ++ map (λ w. record { fixed = w; form = nothing }) (functions ++ 
 
 unfoldable pub slotOf : ℕ → Slot
 slotOf i = getD lines i (slot "" other)
-
-abbrev pub fixedOf : ℕ → List ℕ
-fixedOf i = slotOf i .fixed
-
--- the number of all that follows a slot's qualifier
-unfoldable pub numberOf : ℕ → List ℕ → ℕ
-numberOf slot v = valueNumber (slotOf slot) v

@@ -5,7 +5,7 @@ ghost use mathlib.Core.Path.{_≡_};
 ghost use lib.ListN.{length};
 ghost use Rattle.sheets.specs.Trees.{tableOf};
 ghost use Rattle.reader.specs.Take.{takeOf};
-ghost use Rattle.table.specs.Table.{header, slotOf, fixedOf};
+ghost use Rattle.table.specs.Table.{header, slotOf};
 ghost use Rattle.table.specs.Tree.{tree};
 
 // Sixteen bytes a row: its kind, its slot, the length of its text, the text.
@@ -106,7 +106,7 @@ pub fn take(message: &[u8]) -> Body
 
 // How long the fixed text of a slot is.
 pub fn fixed_length(slot: usize) -> usize
-    ensures { λ r. ⌜ r ≡ length (fixedOf slot) ⌝ }
+    ensures { λ r. ⌜ r ≡ length (slotOf slot .fixed) ⌝ }
 {
     forms::fixed_text(&SLOTS, slot).len()
 }

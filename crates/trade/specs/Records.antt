@@ -48,8 +48,17 @@ abbrev pub momentOr0 : MomentRead → Moment
 momentOr0 (MomentRead.Good m) = m
 momentOr0 MomentRead.Wrong = record { date = record { 0 = 0 }; time = record { 0 = 0 } }
 
--- ---- the record of a message, from the values of its slots. Slots are numbered as document 01 numbers its fields; 28 is the
--- password and 29 the sender
+-- ---- the record of a message, from the values of its slots. Slots are numbered as document 01 numbers its fields, from 1 to the
+-- narrative's; it does not number the password and the sender
+
+abbrev pub narrativeSlot : ℕ
+narrativeSlot = 21
+
+abbrev pub passwordSlot : ℕ
+passwordSlot = 28
+
+abbrev pub senderSlot : ℕ
+senderSlot = 29
 
 unfoldable pub partyOf : List ℕ → List ℕ → List ℕ → Party
 partyOf code ref trader = record { code = textOf code; reference = textOf ref; trader = textOf trader }
@@ -57,8 +66,8 @@ partyOf code ref trader = record { code = textOf code; reference = textOf ref; t
 unfoldable pub tradeOf : (ℕ → List ℕ) → Trade
 tradeOf value =
     record {
-      password = textOf (value 28);
-      sender = textOf (value 29);
+      password = textOf (value passwordSlot);
+      sender = textOf (value senderSlot);
       seme = textOf (value 1);
       prep = momentOr0 (momentRead (value 3));
       mast = textOf (value 4);
@@ -74,9 +83,9 @@ tradeOf value =
       par = record { 0 = amountOr0 (amountRead (value 18)) };
       cusip = textOf (value 19);
       pool = textOf (value 20);
-      service = serviceOf (value 21);
-      period = periodOf (value 21);
-      reason = textOf (reasonIn (value 21));
+      service = serviceOf (value narrativeSlot);
+      period = periodOf (value narrativeSlot);
+      reason = textOf (reasonIn (value narrativeSlot));
     }
 
 -- ---- the blank record: every text of length 0, every number zero, every optional field absent, every code word the first

@@ -22,6 +22,13 @@ ghost use Rattle.stretches.specs.Stretches.{stretchOf};
 ghost use Rattle.trade.specs.Records.{amountOr0, dateOr0, momentOr0, partyOf, tradeOf, blankTrade};
 ghost use Rattle.trade.specs.Parts.{linksOf, detailsOf, securityOf};
 
+// The slots that are named; the others have the numbers of document 01's fields, of which the narrative is the last.
+pub const NARRATIVE: usize = 21;
+
+const PASSWORD: usize = 28;
+
+const SENDER: usize = 29;
+
 // The kinds of an MT515.
 pub enum Kind {
     Inst,
@@ -235,7 +242,7 @@ fn details_at<'a, 'b>(message: &'a [u8], starts: &'b [usize], ends: &'b [usize])
 fn security_at<'a, 'b>(message: &'a [u8], starts: &'b [usize], ends: &'b [usize]) -> Security
     ensures { λ r. ⌜ r ≡ securityOf (tradeOf (stretchOf (now (message .entry)) (now (starts .entry)) (now (ends .entry)))) ⌝ }
 {
-    let narrative = stretches::stretch(message, starts, ends, 21);
+    let narrative = stretches::stretch(message, starts, ends, NARRATIVE);
     Security {
         par: Par::of(amount_at(message, starts, ends, 18)),
         cusip: text_at(message, starts, ends, 19),
@@ -267,8 +274,8 @@ pub fn gather<'a, 'b>(message: &'a [u8], starts: &'b [usize], ends: &'b [usize])
         reason,
     } = security_at(message, starts, ends);
     Trade {
-        password: text_at(message, starts, ends, 28),
-        sender: text_at(message, starts, ends, 29),
+        password: text_at(message, starts, ends, PASSWORD),
+        sender: text_at(message, starts, ends, SENDER),
         seme: text_at(message, starts, ends, 1),
         prep: moment_at(message, starts, ends, 3),
         mast,

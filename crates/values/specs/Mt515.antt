@@ -8,10 +8,10 @@ use Rattle.text.specs.Bytes.{bytes}
 use Rattle.lines.specs.Verdicts.{then, when}
 use Rattle.sheets.specs.Plain.{Group}
 use Rattle.format.specs.Format.{Format}
-use Rattle.trade.specs.Records.{tradeOf, blankTrade}
+use Rattle.trade.specs.Records.{tradeOf, blankTrade, narrativeSlot}
 use Rattle.trade.specs.declared.Trade.{Trade}
 use Rattle.kinds.specs.Kinds.{recordPass, kindsPass}
-use Rattle.table.specs.Table.{header, slotOf}
+use Rattle.table.specs.Table.{header, slotOf, lastField}
 use Rattle.table.specs.Tree.{tree}
 use Rattle.values.specs.Values.{valueOf}
 use Rattle.values.specs.Writable.{inForm}
@@ -45,10 +45,10 @@ mt515 =
       valueOf = valueOf;
       inForm = inForm;
       readRules = λ value t. kindsPass (value 2) t;
-      writeRules = λ t. then (recordPass t) (when (ltb 35 (4 + length (valueOf t 21))) 20);
+      writeRules = λ t. then (recordPass t) (when (ltb 35 (4 + length (valueOf t narrativeSlot))) 20);
       groups = links ∷ parties ∷ [];
       fronts = fronts;
       longest = 822;
-      fields = 21;
-      beyond = λ slot. cond (eqb slot 21) 1 0;
+      fields = lastField;
+      beyond = λ slot. cond (eqb slot narrativeSlot) 1 0;
     }

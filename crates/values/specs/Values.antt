@@ -52,8 +52,8 @@ reasonText reason = cond (present reason) (bytes "/DKRS" ++ contents reason) []
 unfoldable pub narrative : Service → Period → Text → List ℕ
 narrative service period reason = bytes "/TDSV" ++ (serviceWord service ++ (periodText period ++ reasonText reason))
 
--- ---- the value of each slot, numbered as document 01 numbers its fields; 28 is the password and 29 the sender. What is absent
--- has no bytes, nor has a number that names no slot
+-- ---- the value of each slot, numbered as document 01 numbers its fields. What is absent has no bytes, nor has a number that names
+-- no slot
 
 unfoldable pub values : Trade → List (List ℕ)
 values t =
@@ -83,7 +83,7 @@ values t =
     ∷ contents (t .cusip)
     ∷ contents (t .pool)
     ∷ narrative (t .service) (t .period) (t .reason)
-    -- 22 to 29: no slots, and then the password and the sender
+    -- 22 to 29: no slots, and then passwordSlot and senderSlot
     ∷ [] ∷ [] ∷ [] ∷ [] ∷ [] ∷ []
     ∷ contents (t .password)
     ∷ contents (t .sender)

@@ -10,6 +10,7 @@ use Rattle.calendar.specs.Dates.{isDate, isMoment}
 use Rattle.calendar.specs.declared.Moment.{Moment}
 use Rattle.forms.specs.Forms.{formNumber}
 use Rattle.format.specs.Format.{mayLack}
+use Rattle.trade.specs.Records.{passwordSlot, senderSlot}
 use Rattle.trade.specs.declared.Period.{Period}
 use Rattle.trade.specs.declared.Trade.{Trade}
 use Rattle.table.specs.Table.{slotOf}
@@ -63,10 +64,10 @@ tests t =
     ∷ fitted 19 (t .cusip)
     ∷ fitted 20 (t .pool)
     ∷ (periodForm (t .period) && reasonForm (t .reason))
-    -- 22 to 29: no slots, and then the password and the sender
+    -- 22 to 29: no slots, and then passwordSlot and senderSlot
     ∷ true ∷ true ∷ true ∷ true ∷ true ∷ true
-    ∷ fitted 28 (t .password)
-    ∷ fitted 29 (t .sender)
+    ∷ fitted passwordSlot (t .password)
+    ∷ fitted senderSlot (t .sender)
     ∷ []
 
 unfoldable pub hold : List Bool → Bool
