@@ -4,7 +4,7 @@ use Prim.Native.Nat.{ℕ, suc, _+_, _-_, _*_, _/_, _%_, _≤_, _<_}
 use mathlib.Core.Path.{_≡_, refl, sym, ap, _∙_}
 use mathlib.Core.Bool.{true}
 use mathlib.Core.List.{List, [], _∷_, _++_, map, append-assoc, append-nil}
-use native.Mathlib.Nat.{suc-mul, mul-le-mul-right}
+use native.Mathlib.Nat.{zero-mul, suc-mul, mul-le-mul-right}
 use native.Mathlib.Numerals.{add-one}
 use native.Mathlib.Omega.{arith}
 use lib.Dec.{leb}
@@ -12,7 +12,7 @@ use lib.ListN.{length, take, drop, getD, set, replicate, length-append, length-t
 use lib.Seq.{take-suc, take-suc-set, take-at, take-all}
 use borrow.Author.Tests.{le-leb}
 use Rattle.text.specs.Copy.{over, fits, placed}
-use Rattle.text.proofs.Laws.{placed-all}
+use Rattle.text.proofs.Laws.{placed-all, length-placed}
 use Rattle.fill.proofs.Runs.{Put, two}
 use Rattle.calendar.specs.declared.Moment.{Moment}
 use Rattle.packed.proofs.Laws.{at-most-in, at-most-out}
@@ -56,32 +56,38 @@ unfolding inRow
 row-append [] ts = refl
 row-append (s ∷ ss) ts = rw (row-append ss ts) (sym (append-assoc s (inRow ss) (inRow ts)))
 
--- the first i of them stand in front: with one more put, so do i + 1
-pub row-none : (buf : List ℕ) → take 0 buf ≡ inRow []
-unfolding inRow
-row-none buf = refl
+-- `count` places, of so many bytes each, put one by one: the first i of them stand in front
+module _ {A : Type 0} (f : A → List ℕ) (width count : ℕ) (l : List A) where
+  abbrev pub Laid : List ℕ → ℕ → Type 0
+  Laid row i = (i ≤ count) × (length row ≡ count * width) × (take (i * width) row ≡ inRow (take i (map f l)))
 
-pub row-more : {A : Type 0} (f : A → List ℕ) (width : ℕ) (l : List A) (buf : List ℕ) (i : ℕ) (d : A) (s : List ℕ) → take (i * width) buf ≡ inRow (take i (map f l)) → i < length l
-    → s ≡ f (getD l i d) → length s ≡ width → i * width + width ≤ length buf → (now : List ℕ) → now ≡ placed buf (i * width) s
-    → take ((i + 1) * width) now ≡ inRow (take (i + 1) (map f l))
-unfolding inRow placed fits over
-row-more f width l buf i d s e h g n room now p =
-    let at : ℕ = i * width in
-    let ss : List (List ℕ) = map f l in
-    let k : i < length ss = rw length-map h in
-    let t : leb (at + length s) (length buf) ≡ true = le-leb (at + length s) (length buf) (omega arith) in
-    let j : now ≡ (take at buf ++ s) ++ drop (at + length s) buf = p ∙ rw t (sym (append-assoc (take at buf) s _)) in
-    let w : (i + 1) * width ≡ at + width = rw (add-one, suc-mul) in
-    let m : length (take at buf ++ s) ≡ at + width = rw (length-append, length-take) (omega arith) in
-    let q : inRow (take (suc i) ss) ≡ inRow (take i ss) ++ s =
-    ap inRow (take-suc ss i (f d) k) ∙ row-append (take i ss) _ ∙ ap (λ (x : List ℕ). inRow (take i ss) ++ x) (append-nil (getD ss i (f d)) ∙ List·getD-map f l i d ∙ sym g)
-    in rw (j, w, take-at (take at buf ++ s) _ _ m, add-one, q, e)
+  pub laid-none : (row : List ℕ) → length row ≡ count * width → Laid row 0
+  unfolding inRow
+  laid-none row n = (omega arith, n, rw zero-mul)
 
-pub row-done : (width count : ℕ) (ss : List (List ℕ)) (buf : List ℕ) (i : ℕ) → take (i * width) buf ≡ inRow (take i ss) → count ≤ i → length ss ≡ count → length buf ≡ count * width
-    → buf ≡ inRow ss
-row-done width count ss buf i e h l m =
-    let w : count * width ≤ i * width = mul-le-mul-right width h in
-    sym (take-all (i * width) buf (omega arith)) ∙ e ∙ ap inRow (take-all i ss (omega arith))
+  pub laid-more : (row : List ℕ) (i : ℕ) (d : A) (s now : List ℕ) → Laid row i → i < count → length l ≡ count → s ≡ f (getD l i d) → length s ≡ width
+      → now ≡ placed row (i * width) s → Laid now (i + 1)
+  unfolding inRow placed fits over
+  laid-more row i d s now e h n g m p =
+      let at : ℕ = i * width in
+      let ss : List (List ℕ) = map f l in
+      let k : i < length ss = rw (length-map, n) h in
+      let w : (i + 1) * width ≡ at + width = rw (add-one, suc-mul) in
+      let room : (i + 1) * width ≤ count * width = mul-le-mul-right width (omega arith) in
+      let o = e .1 in
+      let t : leb (at + length s) (length row) ≡ true = le-leb (at + length s) (length row) (omega arith) in
+      let j : now ≡ (take at row ++ s) ++ drop (at + length s) row = p ∙ rw t (sym (append-assoc (take at row) s _)) in
+      let z : length (take at row ++ s) ≡ at + width = rw (length-append, length-take) (omega arith) in
+      let q : inRow (take (suc i) ss) ≡ inRow (take i ss) ++ s =
+      ap inRow (take-suc ss i (f d) k) ∙ row-append (take i ss) _ ∙ ap (λ (x : List ℕ). inRow (take i ss) ++ x) (append-nil (getD ss i (f d)) ∙ List·getD-map f l i d ∙ sym g)
+      in (omega arith, ap length p ∙ length-placed row at s ∙ o, rw (j, w, take-at (take at row ++ s) _ _ z, add-one, q, e .2))
+
+  pub laid-done : (row : List ℕ) (i : ℕ) → Laid row i → count ≤ i → length l ≡ count → row ≡ inRow (map f l)
+  laid-done row i e h n =
+      let o = e .1 in
+      let m = length-map l f in
+      let w : count * width ≤ i * width = mul-le-mul-right width h in
+      sym (take-all (i * width) row (omega arith)) ∙ e .2 ∙ ap inRow (take-all i (map f l) (omega arith))
 
 -- ---- the place of a text
 

@@ -8,7 +8,7 @@ use native.Mathlib.Numerals.{add-one}
 use native.Mathlib.Omega.{arith}
 use lib.Arith.{digits-lt}
 use lib.Dec.{lit<}
-use lib.ListN.{length, take, drop, getD, set, replicate, length-take, length-drop, length-map, drop-of-length-le, List·getD-map}
+use lib.ListN.{length, take, drop, getD, set, replicate, length-take, length-drop, length-map, length-set, drop-of-length-le, List·getD-map}
 use lib.Seq.{take-suc, take-suc-set, take-all, drop-cons, drop-drop, getD-drop}
 use Rattle.text.specs.Bytes.{parts}
 use Rattle.text.specs.Copy.{placed}
@@ -40,30 +40,37 @@ from-fits left number h =
 
 -- ---- a row of places read one by one
 
-pub fill-more : {A : Type 0} (goal l : List A) (i : ℕ) (a d : A) → take i l ≡ take i goal → i < length l → i < length goal → a ≡ getD goal i d
-    → take (i + 1) (set l i a) ≡ take (i + 1) goal
-fill-more goal l i a d e h g f = rw (add-one, take-suc-set l i a h, take-suc goal i d g, e, f)
+-- `n` places of so many bytes from a byte on, each made into what it holds: the first i of them are right
+module _ {A : Type 0} (f : List ℕ → A) (width n from : ℕ) (s : List ℕ) where
+  abbrev pub Read : List A → ℕ → Type 0
+  Read l i = (i ≤ n) × (length l ≡ n) × (take i l ≡ take i (map f (parts width n (drop from s))))
 
-pub fill-done : {A : Type 0} (goal l : List A) (i n : ℕ) → take i l ≡ take i goal → n ≤ i → length l ≡ n → length goal ≡ n → l ≡ goal
-fill-done goal l i n e h p q = sym (take-all i l (omega arith)) ∙ e ∙ take-all i goal (omega arith)
+  length-places : length (map f (parts width n (drop from s))) ≡ n
+  length-places = length-map (parts width n (drop from s)) f ∙ length-parts width n (drop from s)
 
--- a part that lies within is as long as it is asked to be
-pub part-width : (at width : ℕ) → at + width - at ≡ width
-part-width at width = omega arith
+  -- a part that lies within is as long as it is asked to be
+  pub part-long : (i : ℕ) → from + i * width + width ≤ length s → length (take (from + i * width + width - (from + i * width)) (drop (from + i * width) s)) ≡ width
+  part-long i h = rw (length-take, length-drop) (omega arith)
 
-pub part-long : (s : List ℕ) (at width : ℕ) → at + width ≤ length s → length (take (at + width - at) (drop at s)) ≡ width
-part-long s at width h = rw (length-take, length-drop) (omega arith)
-
-module _ {A : Type 0} (f : List ℕ → A) (width n from i : ℕ) (s : List ℕ) where
-  pub place-at : i < n → f (take width (drop (from + i * width) s)) ≡ getD (map f (parts width n (drop from s))) i (f [])
-  place-at h =
+  place-at : (i : ℕ) → i < n → f (take (from + i * width + width - (from + i * width)) (drop (from + i * width) s)) ≡ getD (map f (parts width n (drop from s))) i (f [])
+  place-at i h =
       let l : List (List ℕ) = parts width n (drop from s) in
+      let w : from + i * width + width - (from + i * width) ≡ width = omega arith in
       let e : getD l i [] ≡ take width (drop (i * width) (drop from s)) =
       sym (getD-drop i l 0 [] ∙ ap (λ (k : ℕ). getD l k []) (add-zero i)) ∙ ap (λ (k : List (List ℕ)). getD k 0 []) (parts-from width n i (drop from s) h)
-      in ap (λ (k : List ℕ). f (take width k)) (sym (drop-drop (i * width) from s)) ∙ ap f (sym e) ∙ sym (List·getD-map f l i [])
+      in rw w (ap (λ (k : List ℕ). f (take width k)) (sym (drop-drop (i * width) from s)) ∙ ap f (sym e) ∙ sym (List·getD-map f l i []))
 
-  pub length-places : length (map f (parts width n (drop from s))) ≡ n
-  length-places = length-map (parts width n (drop from s)) f ∙ length-parts width n (drop from s)
+  pub read-more : (l : List A) (i : ℕ) (a : A) → Read l i → i < n → a ≡ f (take (from + i * width + width - (from + i * width)) (drop (from + i * width) s)) → Read (set l i a) (i + 1)
+  read-more l i a r h e =
+      let g : i < length (map f (parts width n (drop from s))) = rw length-places h in
+      let k : i < length l = rw (r .1) h in
+      (omega arith, length-set l i a ∙ r .1, rw (add-one, take-suc-set l i a k, take-suc (map f (parts width n (drop from s))) i (f []) g, r .2, ← place-at i h, e))
+
+  pub read-done : (l : List A) (i : ℕ) → Read l i → n ≤ i → l ≡ map f (parts width n (drop from s))
+  read-done l i r h =
+      let p = r .1 in
+      let q = length-places in
+      sym (take-all i l (omega arith)) ∙ r .2 ∙ take-all i (map f (parts width n (drop from s))) (omega arith)
 
 -- ---- a text from its place
 

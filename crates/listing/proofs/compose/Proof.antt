@@ -8,23 +8,11 @@ use borrow.Author.Needs.{needs}
 use Rattle.listing.proofs.compose.Statement.{statement}
 use Rattle.listing.proofs.compose.Tie as tie
 
-put-field-requires : tie.Need-put-field-requires
-put-field-requires c κs = search needs
+put-fields-requires : tie.Need-put-fields-requires
+put-fields-requires c κs = search needs
 
-put-field-requires-2 : tie.Need-put-field-requires-2
-put-field-requires-2 c κs = search needs
-
-put-field-requires-3 : tie.Need-put-field-requires-3
-put-field-requires-3 c κs = search needs
-
-put-field-requires-4 : tie.Need-put-field-requires-4
-put-field-requires-4 c κs = search needs
-
-put-field-requires-5 : tie.Need-put-field-requires-5
-put-field-requires-5 c κs = search needs
-
-put-field-requires-6 : tie.Need-put-field-requires-6
-put-field-requires-6 c κs = search needs
+put-fields-requires-2 : tie.Need-put-fields-requires-2
+put-fields-requires-2 c κs = search needs
 
 put-text-requires : tie.Need-put-text-requires
 put-text-requires c κs = search needs
@@ -39,7 +27,7 @@ same-length : tie.Need-same-length
 same-length c = search needs
 
 -- a text has twenty bytes by its type
-short : (c : tie.After-put-field) → Short (c .before .before .before .args .row)
+short : (c : tie.After-put-fields) → Short (c .before .before .before .args .row)
 short c =
     record {
       message = search needs;
@@ -54,32 +42,20 @@ short c =
 returns : tie.Need-returns
 unfolding bytes partsOf
 returns c =
-    let t = c .before .before .before .before .before .before .before in
-    let f = t .before .before .before .before in
-    let e = f .before .before .before .before in
-    let d = e .before .before .before .before in
-    let b = d .before .before .before .before in
-    let a = b .before .before .before .before in
-    let z = a .before .before .before .before in
-    let run = then _ _ _ _ (z .put-field .ensures)
-    (then _ _ _ _ (a .put-field2 .ensures)
-    (then _ _ _ _ (b .put-field3 .ensures)
-    (then _ _ _ _ (d .put-field4 .ensures)
-    (then _ _ _ _ (e .put-field5 .ensures)
-    (then _ _ _ _ (f .put-field6 .ensures)
-    (then _ _ (_ ∷ []) (_ ∷ []) (one _ _ _ (t .put-text .ensures)) (one _ _ _ (c .before .before .put .ensures))))))))
-    in (run .0, run .1, row-short _ (short z))
+    let last = c .before .before .before .before .before .before .before in
+    let three = last .before .before .before .before in
+    let numbers = three .before .before .before .before in
+    let run = then _ _ _ _ (numbers .put-fields .ensures)
+    (then _ _ _ _ (three .put-fields2 .ensures)
+    (then _ _ (_ ∷ []) (_ ∷ []) (one _ _ _ (last .put-text .ensures)) (one _ _ _ (c .before .before .put .ensures))))
+    in (run .0, run .1, row-short _ (short numbers))
 
 pub compose-spec : {M : Type 1} → statement M
 compose-spec =
     tie.close
     (tie.spec
-    put-field-requires
-    put-field-requires-2
-    put-field-requires-3
-    put-field-requires-4
-    put-field-requires-5
-    put-field-requires-6
+    put-fields-requires
+    put-fields-requires-2
     put-text-requires
     slice-aggregate-put
     put-requires

@@ -1,16 +1,15 @@
 -- `unpacked::places::numbers_in` meets its contract. The loop's invariant: the first i are right. Assumes nothing.
 use borrow.Author.Needs.{needs}
 use native.Mathlib.Omega.{arith}
-use Prim.Native.Nat.{ℕ, _+_, _*_, _-_, _≤_}
-use mathlib.Core.Path.{_≡_, refl, ap, _∙_}
-use lib.ListN.{length, take, drop, length-set}
+use Prim.Native.Nat.{_-_}
+use mathlib.Core.Path.{refl}
 use Rattle.unpacked.specs.Unpacked.{numberFrom, numbersIn}
-use Rattle.unpacked.proofs.Turns.{part-width, part-long, fill-more, fill-done, place-at, length-places}
+use Rattle.unpacked.proofs.Turns.{Read, part-long, read-more, read-done}
 use Rattle.unpacked.proofs.places.numbers_in.Statement.{statement}
 use Rattle.unpacked.proofs.places.numbers_in.Tie as tie
 
 abbrev Inv-loop : tie.InvT-loop
-Inv-loop packed numbers₀ i₀ numbers i = (i ≤ 7) × (length numbers ≡ 7) × (take i numbers ≡ take i (numbersIn packed))
+Inv-loop packed numbers₀ i₀ numbers i = Read numberFrom 8 7 319 packed numbers i
 
 abbrev μ-loop : tie.MeasureT-loop
 μ-loop packed numbers₀ i₀ numbers i = 7 - i
@@ -37,7 +36,7 @@ part-number-from-end : tie.Need-part-number-from-end Inv-loop μ-loop
 part-number-from-end c = omega arith
 
 number-from-requires : tie.Need-number-from-requires Inv-loop μ-loop
-number-from-requires c κs = let l = c .before .before in part-long (l .before .before .args .packed .now) (319 + l .loop .i * 8) 8 (omega arith)
+number-from-requires c κs = let l = c .before .before in part-long numberFrom 8 7 319 (l .before .before .args .packed .now) (l .loop .i) (omega arith)
 
 mul-numbers : tie.Need-mul-numbers Inv-loop μ-loop
 mul-numbers c = omega arith
@@ -52,20 +51,16 @@ loop-less : tie.Need-loop-less Inv-loop μ-loop
 loop-less c = omega arith
 
 loop-again : tie.Need-loop-again Inv-loop μ-loop
-unfolding numbersIn
 loop-again c =
-    let l = c .before .before .before in
-    let s = l .before .before .args .packed .now in
-    let t = c .before .before .loop-test .taken in
-    let n = length-places numberFrom 8 7 319 0 s in
-    let e = c .number-from .ensures ∙ ap (λ (k : ℕ). numberFrom (take k (drop (319 + l .loop .i * 8) s))) (part-width (319 + l .loop .i * 8) 8) ∙ place-at numberFrom 8 7 319 (l .loop .i) s t in
-    (omega arith, simp length-set (l .loop .inv .1), fill-more (numbersIn s) (l .loop .numbers) (l .loop .i) _ _ (l .loop .inv .2) (omega arith) (omega arith) e)
+    let t = c .before .before in
+    let l = t .before in
+    read-more numberFrom 8 7 319 (l .before .before .args .packed .now) (l .loop .numbers) (l .loop .i) _ (l .loop .inv) (t .loop-test .taken) (c .number-from .ensures)
 
 returns : tie.Need-returns Inv-loop μ-loop
 unfolding numbersIn
 returns c =
     let l = c .before in
-    fill-done _ _ _ 7 (l .loop .inv .2) (c .loop-test .left) (l .loop .inv .1) (length-places numberFrom 8 7 319 0 (l .before .before .args .packed .now))
+    read-done numberFrom 8 7 319 (l .before .before .args .packed .now) (l .loop .numbers) (l .loop .i) (l .loop .inv) (c .loop-test .left)
 
 pub numbers-in-spec : {M : Type 1} → statement M
 numbers-in-spec =

@@ -1,16 +1,15 @@
 -- `unpacked::places::texts_in` meets its contract. The loop's invariant: the first i are right. Assumes nothing.
 use borrow.Author.Needs.{needs}
 use native.Mathlib.Omega.{arith}
-use Prim.Native.Nat.{ℕ, _+_, _*_, _-_, _≤_}
-use mathlib.Core.Path.{_≡_, refl, ap, _∙_}
-use lib.ListN.{length, take, drop, length-set}
+use Prim.Native.Nat.{_-_}
+use mathlib.Core.Path.{refl}
 use Rattle.unpacked.specs.Unpacked.{textFrom, textsIn}
-use Rattle.unpacked.proofs.Turns.{part-width, part-long, fill-more, fill-done, place-at, length-places}
+use Rattle.unpacked.proofs.Turns.{Read, part-long, read-more, read-done}
 use Rattle.unpacked.proofs.places.texts_in.Statement.{statement}
 use Rattle.unpacked.proofs.places.texts_in.Tie as tie
 
 abbrev Inv-loop : tie.InvT-loop
-Inv-loop packed texts₀ i₀ texts i = (i ≤ 15) × (length texts ≡ 15) × (take i texts ≡ take i (textsIn packed))
+Inv-loop packed texts₀ i₀ texts i = Read textFrom 21 15 4 packed texts i
 
 abbrev μ-loop : tie.MeasureT-loop
 μ-loop packed texts₀ i₀ texts i = 15 - i
@@ -37,7 +36,7 @@ part-text-from-end : tie.Need-part-text-from-end Inv-loop μ-loop
 part-text-from-end c = omega arith
 
 text-from-requires : tie.Need-text-from-requires Inv-loop μ-loop
-text-from-requires c κs = let l = c .before .before in part-long (l .before .before .args .packed .now) (4 + l .loop .i * 21) 21 (omega arith)
+text-from-requires c κs = let l = c .before .before in part-long textFrom 21 15 4 (l .before .before .args .packed .now) (l .loop .i) (omega arith)
 
 mul-texts : tie.Need-mul-texts Inv-loop μ-loop
 mul-texts c = omega arith
@@ -52,20 +51,16 @@ loop-less : tie.Need-loop-less Inv-loop μ-loop
 loop-less c = omega arith
 
 loop-again : tie.Need-loop-again Inv-loop μ-loop
-unfolding textsIn
 loop-again c =
-    let l = c .before .before .before in
-    let s = l .before .before .args .packed .now in
-    let t = c .before .before .loop-test .taken in
-    let n = length-places textFrom 21 15 4 0 s in
-    let e = c .text-from .ensures ∙ ap (λ (k : ℕ). textFrom (take k (drop (4 + l .loop .i * 21) s))) (part-width (4 + l .loop .i * 21) 21) ∙ place-at textFrom 21 15 4 (l .loop .i) s t in
-    (omega arith, simp length-set (l .loop .inv .1), fill-more (textsIn s) (l .loop .texts) (l .loop .i) _ _ (l .loop .inv .2) (omega arith) (omega arith) e)
+    let t = c .before .before in
+    let l = t .before in
+    read-more textFrom 21 15 4 (l .before .before .args .packed .now) (l .loop .texts) (l .loop .i) _ (l .loop .inv) (t .loop-test .taken) (c .text-from .ensures)
 
 returns : tie.Need-returns Inv-loop μ-loop
 unfolding textsIn
 returns c =
     let l = c .before in
-    fill-done _ _ _ 15 (l .loop .inv .2) (c .loop-test .left) (l .loop .inv .1) (length-places textFrom 21 15 4 0 (l .before .before .args .packed .now))
+    read-done textFrom 21 15 4 (l .before .before .args .packed .now) (l .loop .texts) (l .loop .i) (l .loop .inv) (c .loop-test .left)
 
 pub texts-in-spec : {M : Type 1} → statement M
 texts-in-spec =
