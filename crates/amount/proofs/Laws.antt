@@ -17,7 +17,7 @@ use Rattle.text.specs.declared.Class.the-variants.{Digit}
 use Rattle.text.proofs.Laws.{and-left, and-right, and-both, all-append}
 use Rattle.digits.specs.Numerals.{numeral, numeralFrom, digits}
 use Rattle.digits.proofs.Laws.{digit-low, digit-high, numeral-append, numeral-lt, numeral-digits, digits-more, length-digits, all-digits}
-use Rattle.amount.specs.Amounts.{whole, decimals, isAmount, trimmed, shortened, tidy, valueFrom, valueOf, amountRead, inForm, spread, amountText}
+use Rattle.amount.specs.Amounts.{whole, decimals, isAmount, trimmed, shortened, tidy, meaningOf, meaning, amountRead, inForm, spread, amountText}
 use Rattle.amount.specs.declared.Amount.{Amount}
 use Rattle.amount.specs.declared.AmountRead.{AmountRead}
 use Rattle.amount.specs.declared.AmountRead.the-variants.{Good, Wrong}
@@ -35,8 +35,8 @@ last-digit y b e =
 -- ---- a whole part and decimals that make an amount
 
 module _ (w f : List ℕ) (wholes : allIn Digit w ≡ true) where
-  pub value-of : valueOf (w ++ 44 ∷ f) ≡ valueFrom w f
-  unfolding valueOf
+  pub value-of : meaning (w ++ 44 ∷ f) ≡ meaningOf w f
+  unfolding meaning
   value-of = rw (whole-of w f wholes, decimals-of w f wholes)
 
   pub tidy-of : tidy (w ++ 44 ∷ f) ≡ trimmed w ++ 44 ∷ shortened f
@@ -91,8 +91,8 @@ module _ (w f : List ℕ) (fit : Fit w f) where
         rests = shortened-digits f (fit .rests);
       }
 
-  pub tidy-value : valueFrom (trimmed w) (shortened f) ≡ valueFrom w f
-  unfolding valueFrom
+  pub tidy-value : meaningOf (trimmed w) (shortened f) ≡ meaningOf w f
+  unfolding meaningOf
   tidy-value = rw (shortened-twice f, trimmed-numeral w (shortened f))
 
   -- ---- the meaning of an amount's text is in form
@@ -121,8 +121,8 @@ module _ (w f : List ℕ) (fit : Fit w f) where
           let z : x .last - 48 ≡ 0 → ⊥ = λ h. n (omega arith) in
           rw (m, ne-eqb (x .last - 48) 0 z) (or-true (eqb (length (shortened f)) 0))
 
-  pub value-form : inForm (valueFrom w f) ≡ true
-  unfolding inForm valueFrom
+  pub value-form : inForm (meaningOf w f) ≡ true
+  unfolding inForm meaningOf
   value-form =
       let a : numeral (w ++ shortened f) < 10 ^ 14 = lt-of-lt-of-le (numeral-lt (w ++ shortened f) digits-all) (pow-le-pow-right (lit< tt) digits-few) in
       let h = fit .short in
@@ -139,15 +139,15 @@ module _ (w f : List ℕ) (fit : Fit w f) where
   unfolding noughts
   digits-are = digits-more 14 (w ++ shortened f) digits-all digits-few ∙ sym (append-assoc noughts w (shortened f))
 
-  spread-is : spread (valueFrom w f) ≡ (noughts ++ w) ++ 44 ∷ shortened f
-  unfolding spread valueFrom noughts
+  spread-is : spread (meaningOf w f) ≡ (noughts ++ w) ++ 44 ∷ shortened f
+  unfolding spread meaningOf noughts
   spread-is =
       let n = digits-few in
       let k : length (w ++ shortened f) ≡ length w + length (shortened f) = length-append w (shortened f) in
       let l : length (noughts ++ w) ≡ 14 - length (shortened f) = length-append noughts w ∙ rw length-replicate (omega arith) in
       rw (digits-are, take-at (noughts ++ w) (shortened f) _ l, drop-at (noughts ++ w) (shortened f) _ l)
 
-  pub text-value : amountText (valueFrom w f) ≡ trimmed w ++ 44 ∷ shortened f
+  pub text-value : amountText (meaningOf w f) ≡ trimmed w ++ 44 ∷ shortened f
   unfolding amountText noughts
   text-value =
       let d : allIn Digit (noughts ++ w) ≡ true =
@@ -219,8 +219,8 @@ module _ (a : Amount) (form : inForm a ≡ true) where
       go true e = rw (nothing rest (rest-length ∙ eqb-true _ _ e))
       go false e = ends-stay rest (rest-ends (eqb-false (a .decimals) 0 e))
 
-  spread-back : valueFrom front rest ≡ a
-  unfolding valueFrom
+  spread-back : meaningOf front rest ≡ a
+  unfolding meaningOf
   spread-back = let n = numeral-digits 14 (a .number) small in rw (rest-stays, front-rest, rest-length, n)
 
   pub text-parts : amountText a ≡ trimmed front ++ 44 ∷ shortened rest
@@ -230,9 +230,9 @@ module _ (a : Amount) (form : inForm a ≡ true) where
   pub written-amount : isAmount (amountText a) ≡ true
   written-amount = ap isAmount text-parts ∙ fit-amount (trimmed front) (shortened rest) (tidy-fit front rest spread-fit)
 
-  pub written-value : valueOf (amountText a) ≡ a
+  pub written-value : meaning (amountText a) ≡ a
   written-value =
-      ap valueOf text-parts ∙ value-of (trimmed front) (shortened rest) (tidy-fit front rest spread-fit .wholes)
+      ap meaning text-parts ∙ value-of (trimmed front) (shortened rest) (tidy-fit front rest spread-fit .wholes)
       ∙ tidy-value front rest spread-fit ∙ spread-back
 
   pub amount-round : amountRead (amountText a) ≡ Good a
@@ -249,21 +249,21 @@ module _ (s : List ℕ) (e : isAmount s ≡ true) where
   fit-of : Fit (whole s) (decimals s)
   fit-of = amount-fit s e
 
-  pub value-in-form : inForm (valueOf s) ≡ true
-  unfolding valueOf
+  pub value-in-form : inForm (meaning s) ≡ true
+  unfolding meaning
   value-in-form = value-form (whole s) (decimals s) fit-of
 
   -- writing what was read gives the tidied text
-  pub written-tidy : amountText (valueOf s) ≡ tidy s
-  unfolding valueOf tidy
+  pub written-tidy : amountText (meaning s) ≡ tidy s
+  unfolding meaning tidy
   written-tidy = text-value (whole s) (decimals s) fit-of
 
   -- the tidied text is an amount's text of the same meaning
   pub tidy-amount : isAmount (tidy s) ≡ true
-  tidy-amount = sym (ap isAmount written-tidy) ∙ written-amount (valueOf s) value-in-form
+  tidy-amount = sym (ap isAmount written-tidy) ∙ written-amount (meaning s) value-in-form
 
-  pub tidy-same : valueOf (tidy s) ≡ valueOf s
-  tidy-same = sym (ap valueOf written-tidy) ∙ written-value (valueOf s) value-in-form
+  pub tidy-same : meaning (tidy s) ≡ meaning s
+  tidy-same = sym (ap meaning written-tidy) ∙ written-value (meaning s) value-in-form
 
 -- a text in tidy form is unchanged
 pub tidy-tidy : (s : List ℕ) → isAmount s ≡ true → tidy (tidy s) ≡ tidy s
@@ -273,6 +273,6 @@ pub tidy-written : (a : Amount) → inForm a ≡ true → tidy (amountText a) �
 tidy-written a form = sym (written-tidy (amountText a) (written-amount a form)) ∙ ap amountText (written-value a form)
 
 -- two texts read as the same amount exactly when their tidied texts are equal
-pub same-amount : (s t : List ℕ) → isAmount s ≡ true → isAmount t ≡ true → (valueOf s ≡ valueOf t) ↔ (tidy s ≡ tidy t)
+pub same-amount : (s t : List ℕ) → isAmount s ≡ true → isAmount t ≡ true → (meaning s ≡ meaning t) ↔ (tidy s ≡ tidy t)
 same-amount s t e f =
-    (λ h. sym (written-tidy s e) ∙ ap amountText h ∙ written-tidy t f, λ h. sym (tidy-same s e) ∙ ap valueOf h ∙ tidy-same t f)
+    (λ h. sym (written-tidy s e) ∙ ap amountText h ∙ written-tidy t f, λ h. sym (tidy-same s e) ∙ ap meaning h ∙ tidy-same t f)

@@ -1,4 +1,4 @@
 pub mod Trims
 pub mod Laws
-pub mod Turns
+pub mod Noughts
 pub mod Cases

@@ -52,14 +52,14 @@ tidy s = trimmed (whole s) ++ 44 ∷ shortened (decimals s)
 
 -- ---- the meaning of a text: its digits as one whole number, and the count of its decimals, in the shortest form
 
-unfoldable pub valueFrom : List ℕ → List ℕ → Amount
-valueFrom w f = record { number = numeral (w ++ shortened f); decimals = length (shortened f) }
+unfoldable pub meaningOf : List ℕ → List ℕ → Amount
+meaningOf w f = record { number = numeral (w ++ shortened f); decimals = length (shortened f) }
 
-unfoldable pub valueOf : List ℕ → Amount
-valueOf s = valueFrom (whole s) (decimals s)
+unfoldable pub meaning : List ℕ → Amount
+meaning s = meaningOf (whole s) (decimals s)
 
 unfoldable pub amountRead : List ℕ → AmountRead
-amountRead s = cond (isAmount s) (Good (valueOf s)) Wrong
+amountRead s = cond (isAmount s) (Good (meaning s)) Wrong
 
 -- the number that the desk gets: 11 for whatever is wrong
 abbrev pub amountNumber : AmountRead → ℕ
@@ -96,4 +96,4 @@ noughts (b ∷ s) = cond (eqb b 48) (suc (noughts s)) 0
 
 -- a whole part and decimals that are both digits
 unfoldable pub partsRead : List ℕ → List ℕ → AmountRead
-partsRead w f = cond (allIn Digit w && allIn Digit f) (Good (valueFrom w f)) Wrong
+partsRead w f = cond (allIn Digit w && allIn Digit f) (Good (meaningOf w f)) Wrong

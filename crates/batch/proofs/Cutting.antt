@@ -4,7 +4,7 @@
 use Prim.Native.Nat.{ℕ}
 use mathlib.Core.Path.{refl}
 use mathlib.Core.List.{List}
-use Rattle.pieces.specs.Turns.{Takes}
+use Rattle.pieces.specs.Calls.{Takes}
 use Rattle.pieces.proofs.Cutting as cutting-pieces
 use Rattle.mt515.specs.Reading.{told, readOf}
 use Rattle.mt515.specs.declared.Reading.{Reading}

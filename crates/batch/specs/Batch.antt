@@ -8,7 +8,7 @@ use lib.ListN.{drop}
 use Rattle.pieces.specs.declared.Turn.{Turn}
 use Rattle.pieces.specs.declared.Turn.the-variants.{Message, Done, Past}
 use Rattle.pieces.specs.Pieces.{pieceOf, pieces}
-use Rattle.pieces.specs.Turns.{turnOf, behindOf, Gives}
+use Rattle.pieces.specs.Calls.{turnOf, behindOf, Gives}
 use Rattle.trade.specs.Records.{blankTrade}
 use Rattle.trade.specs.declared.Trade.{Trade}
 use Rattle.mt515.specs.Reading.{readOf}

@@ -1,3 +1,3 @@
 pub mod Blocks
-pub mod Walks
+pub mod Mutual
 pub mod Cases

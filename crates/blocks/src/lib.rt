@@ -1,7 +1,7 @@
 // The shape of the lines between header and `-`, and the blocks that they open and close.
 //
 // What is right stands in specs/Blocks. A block holds fields and further blocks, which hold fields and blocks in turn: the walk
-// over a block and the walk over its items call each other, and specs/Walks says what they promise each other.
+// over a block and the walk over its items call each other, and specs/Mutual says what they promise each other.
 use lines::Verdict;
 use text::Class;
 ghost use mathlib.Core.Path.{_≡_};
@@ -12,7 +12,7 @@ ghost use lib.ListN.{length, drop};
 ghost use Rattle.text.specs.Bytes.{same};
 ghost use Rattle.lines.specs.Lines.{linesOf};
 ghost use Rattle.blocks.specs.Blocks.{isTagged, named, roleOf, nestPass};
-ghost use Rattle.blocks.specs.Walks.{OfBlock, OfItems};
+ghost use Rattle.blocks.specs.Mutual.{OfBlock, OfItems};
 
 // What a line does: it is the `-` line, it opens or closes a block, it is a field, or it has not the shape of a line.
 enum Role {

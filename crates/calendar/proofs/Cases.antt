@@ -3,10 +3,10 @@
 use mathlib.Core.Path.{refl}
 use Rattle.text.specs.Bytes.{bytes}
 use Rattle.text.specs.Classes.{allIn, inClass, isDigit, isBetween}
-use Rattle.digits.specs.Numerals.{fixedOf, numberOf, numeral, numeralFrom}
+use Rattle.digits.specs.Numerals.{wideNumber, numberOf, numeral, numeralFrom}
 use Rattle.calendar.specs.Dates.{year, month, day, leap, lengths, monthLength, isDate, isTime, isMoment, dateFrom, dateRead, dateNumber, momentOf, momentFrom, momentRead, momentNumber}
 use Rattle.calendar.specs.Cases.{cases, Answered}
 
 pub answered : Answered
-unfolding cases bytes allIn inClass isDigit isBetween fixedOf numberOf numeral numeralFrom year month day leap lengths monthLength isDate isTime isMoment dateFrom dateRead dateNumber momentOf momentFrom momentRead momentNumber
+unfolding cases bytes allIn inClass isDigit isBetween wideNumber numberOf numeral numeralFrom year month day leap lengths monthLength isDate isTime isMoment dateFrom dateRead dateNumber momentOf momentFrom momentRead momentNumber
 answered = refl

@@ -13,7 +13,7 @@ use borrow.Author.Tests.{leb-true, lt-ltb, le-ltb, ltb-true, ltb-false, eqb-true
 use Rattle.text.specs.Classes.{allIn}
 use Rattle.text.specs.declared.Class.the-variants.{Digit}
 use Rattle.text.proofs.Laws.{and-left, and-right}
-use Rattle.digits.specs.Numerals.{digits, fixedOf}
+use Rattle.digits.specs.Numerals.{digits, wideNumber}
 use Rattle.digits.specs.declared.Number.{Number}
 use Rattle.digits.specs.declared.Number.the-variants.{Is, Not}
 use Rattle.digits.proofs.Laws.{length-digits, all-digits, fixed-digits, fixed-back}
@@ -109,7 +109,7 @@ record Form (T R : Type 0) (ok : T → Bool) (text : T → List ℕ) (read : Lis
   from : Number → R
   short : width ≤ 18
   text-is : (t : T) → text t ≡ cond (ok t) (digits width (number t)) []
-  read-is : (s : List ℕ) → read s ≡ from (fixedOf width s)
+  read-is : (s : List ℕ) → read s ≡ from (wideNumber width s)
   from-is : (n : ℕ) → from (Is n) ≡ cond (ok (of n)) (good (of n)) wrong
   from-not : from Not ≡ wrong
   small : (t : T) → ok t ≡ true → number t < 10 ^ width
@@ -127,7 +127,7 @@ module _ {T R : Type 0} {ok : T → Bool} {text : T → List ℕ} {read : List �
       rw (in-digits t e, f .read-is, fixed-digits (f .width) (f .number t) (f .short) (f .small t e), f .from-is, f .of-number t e, e)
 
   back : (s : List ℕ) (t : T) → read s ≡ good t → (ok t ≡ true) × (text t ≡ s)
-  back s t e = go (fixedOf (f .width) s) refl (sym (f .read-is s) ∙ e)
+  back s t e = go (wideNumber (f .width) s) refl (sym (f .read-is s) ∙ e)
     where
       good-of : (n : ℕ) (b : Bool) → ok (f .of n) ≡ b → cond b (good (f .of n)) (f .wrong) ≡ good t → (ok t ≡ true) × (f .number t ≡ n)
       good-of n true o g =
@@ -135,7 +135,7 @@ module _ {T R : Type 0} {ok : T → Bool} {text : T → List ℕ} {read : List �
           (rw u at o, rw (← u) (f .number-of n))
       good-of n false o g = absurd (f .good-not t g)
 
-      go : (v : Number) → fixedOf (f .width) s ≡ v → f .from v ≡ good t → (ok t ≡ true) × (text t ≡ s)
+      go : (v : Number) → wideNumber (f .width) s ≡ v → f .from v ≡ good t → (ok t ≡ true) × (text t ≡ s)
       go (Is n) h g =
           let o = good-of n (ok (f .of n)) refl (sym (f .from-is n) ∙ g) in
           (o .0, in-digits t (o .0) ∙ rw (o .1) (fixed-back (f .width) s n (f .short) h))

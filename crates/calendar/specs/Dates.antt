@@ -5,7 +5,7 @@ use mathlib.Core.Bool.{Bool, _&&_, _||_, not, cond}
 use mathlib.Core.List.{List, [], _∷_}
 use lib.Dec.{leb, ltb, eqb}
 use lib.ListN.{getD}
-use Rattle.digits.specs.Numerals.{digits, fixedOf}
+use Rattle.digits.specs.Numerals.{digits, wideNumber}
 use Rattle.digits.specs.declared.Number.{Number}
 use Rattle.digits.specs.declared.Number.the-variants.{Is, Not}
 use Rattle.calendar.specs.declared.Date.{Date}
@@ -62,7 +62,7 @@ dateFrom (Is n) = cond (isDate n) (DateRead.Good (record { 0 = n })) DateRead.Wr
 dateFrom Not = DateRead.Wrong
 
 unfoldable pub dateRead : List ℕ → DateRead
-dateRead s = dateFrom (fixedOf 8 s)
+dateRead s = dateFrom (wideNumber 8 s)
 
 -- fourteen digits are the eight of the date and the six of the time
 unfoldable pub momentOf : ℕ → Moment
@@ -73,7 +73,7 @@ momentFrom (Is n) = cond (isMoment (momentOf n)) (MomentRead.Good (momentOf n)) 
 momentFrom Not = MomentRead.Wrong
 
 unfoldable pub momentRead : List ℕ → MomentRead
-momentRead s = momentFrom (fixedOf 14 s)
+momentRead s = momentFrom (wideNumber 14 s)
 
 -- the number that the desk gets: 12 for whatever is wrong
 abbrev pub dateNumber : DateRead → ℕ

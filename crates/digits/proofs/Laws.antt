@@ -14,7 +14,7 @@ use borrow.Author.Tests.{leb-true, le-leb, eq-eqb, eqb-true}
 use Rattle.text.specs.Classes.{allIn, inClass, isDigit, isBetween}
 use Rattle.text.specs.declared.Class.the-variants.{Digit}
 use Rattle.text.proofs.Laws.{and-left, and-right, and-both, all-append}
-use Rattle.digits.specs.Numerals.{numeralFrom, numeral, digits, numberOf, fixedOf}
+use Rattle.digits.specs.Numerals.{numeralFrom, numeral, digits, numberOf, wideNumber}
 use Rattle.digits.specs.declared.Number.{Number}
 use Rattle.digits.specs.declared.Number.the-variants.{Is, Not}
 
@@ -134,22 +134,22 @@ digits-more width s e h =
 
 -- ---- a part of a fixed width, both ways: what dates and times rest on
 
-pub fixed-digits : (width n : ℕ) → width ≤ 18 → n < 10 ^ width → fixedOf width (digits width n) ≡ Is n
-unfolding fixedOf numberOf
+pub fixed-digits : (width n : ℕ) → width ≤ 18 → n < 10 ^ width → wideNumber width (digits width n) ≡ Is n
+unfolding wideNumber numberOf
 fixed-digits width n w h =
     let l = length-digits width n in
     rw (eq-eqb _ _ l, l, le-leb width 18 w, all-digits width n, numeral-digits width n h)
 
 -- a part of that width and of digits alone is the digits of its number; any other part is none
-pub fixed-is : (width : ℕ) (s : List ℕ) → width ≤ 18 → fixedOf width s ≡ cond (eqb (length s) width && allIn Digit s) (Is (numeral s)) Not
-unfolding fixedOf numberOf
+pub fixed-is : (width : ℕ) (s : List ℕ) → width ≤ 18 → wideNumber width s ≡ cond (eqb (length s) width && allIn Digit s) (Is (numeral s)) Not
+unfolding wideNumber numberOf
 fixed-is width s w = go (eqb (length s) width) refl
   where
     go : (b : Bool) → eqb (length s) width ≡ b → cond b (cond (leb (length s) 18 && allIn Digit s) (Is (numeral s)) Not) Not ≡ cond (b && allIn Digit s) (Is (numeral s)) Not
     go true e = let l : length s ≡ width = eqb-true _ _ e in rw (le-leb (length s) 18 (omega arith))
     go false e = refl
 
-pub fixed-back : (width : ℕ) (s : List ℕ) (n : ℕ) → width ≤ 18 → fixedOf width s ≡ Is n → digits width n ≡ s
+pub fixed-back : (width : ℕ) (s : List ℕ) (n : ℕ) → width ≤ 18 → wideNumber width s ≡ Is n → digits width n ≡ s
 fixed-back width s n w e = go (eqb (length s) width && allIn Digit s) refl (sym (fixed-is width s w) ∙ e)
   where
     go : (b : Bool) → (eqb (length s) width && allIn Digit s) ≡ b → cond b (Is (numeral s)) Not ≡ Is n → digits width n ≡ s

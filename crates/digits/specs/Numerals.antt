@@ -28,8 +28,8 @@ unfoldable pub numberOf : List ℕ → Number
 numberOf s = cond (leb (length s) 18 && allIn Digit s) (Is (numeral s)) Not
 
 -- the same of a part that has exactly `width` digits
-unfoldable pub fixedOf : ℕ → List ℕ → Number
-fixedOf width s = cond (eqb (length s) width) (numberOf s) Not
+unfoldable pub wideNumber : ℕ → List ℕ → Number
+wideNumber width s = cond (eqb (length s) width) (numberOf s) Not
 
 -- the power of ten that moves a comma by a number of places, up to fourteen
 unfoldable pub tenTo : ℕ → ℕ

@@ -7,7 +7,7 @@ ghost use Prim.Native.Nat.{_-_};
 ghost use mathlib.Core.Bool.{true};
 ghost use Rattle.text.specs.Classes.{isDigit};
 ghost use Rattle.text.specs.Copy.{placed, after};
-ghost use Rattle.digits.specs.Numerals.{digits, numberOf, fixedOf, tenTo};
+ghost use Rattle.digits.specs.Numerals.{digits, numberOf, wideNumber, tenTo};
 
 // A part of a message as a number.
 pub enum Number {
@@ -69,7 +69,7 @@ pub fn read_digits(part: &[u8]) -> Number
 
 // The number that a part of exactly `width` digits spells.
 pub fn read_fixed(part: &[u8], width: usize) -> Number
-    ensures { λ r. ⌜ r ≡ fixedOf width (now (part .entry)) ⌝ }
+    ensures { λ r. ⌜ r ≡ wideNumber width (now (part .entry)) ⌝ }
 {
     if part.len() == width {
         read_digits(part)

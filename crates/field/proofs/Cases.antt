@@ -31,22 +31,22 @@ use Rattle.field.specs.Field.{frontOf, fieldOf, placeOf}
 lineIn : List ℕ → ℕ → Taken
 lineIn m slot = cond (isBetween 1 21 slot) (takenFor slot (takenIn (bodyOf mt515 m))) noLine
 
-valueIn : List ℕ → ℕ → List ℕ
-valueIn m slot = drop (frontOf slot) (lineIn m slot .value)
+fieldIn : List ℕ → ℕ → List ℕ
+fieldIn m slot = drop (frontOf slot) (lineIn m slot .value)
 
 offsetIn : List ℕ → ℕ → ℕ
-offsetIn m slot = endOf m (lineIn m slot .line) - length (valueIn m slot)
+offsetIn m slot = endOf m (lineIn m slot .line) - length (fieldIn m slot)
 
 module _ (m : List ℕ) (z : readOf m .number ≡ 0) where
-  field-in : (slot : ℕ) → fieldOf m slot ≡ valueIn m slot
-  unfolding Any.fieldOf Any.lineFor Any.asked readOf lineIn valueIn
+  field-in : (slot : ℕ) → fieldOf m slot ≡ fieldIn m slot
+  unfolding Any.fieldOf Any.lineFor Any.asked readOf lineIn fieldIn
   field-in slot = rw z
 
   offset-in : (slot : ℕ) → placeOf m slot .offset ≡ offsetIn m slot
-  unfolding placeOf Any.spanIn spanFrom Any.lineFor Any.asked readOf lineIn valueIn offsetIn
+  unfolding placeOf Any.spanIn spanFrom Any.lineFor Any.asked readOf lineIn fieldIn offsetIn
   offset-in slot = rw z
 
-  fields-in : (rows : List (ℕ × String)) → map (λ (row : ℕ × String). fieldOf m (row .0)) rows ≡ map (λ (row : ℕ × String). valueIn m (row .0)) rows
+  fields-in : (rows : List (ℕ × String)) → map (λ (row : ℕ × String). fieldOf m (row .0)) rows ≡ map (λ (row : ℕ × String). fieldIn m (row .0)) rows
   fields-in [] = refl
   fields-in (row ∷ rows) = rw (field-in (row .0), fields-in rows)
 
@@ -55,12 +55,12 @@ accepted =
     let e = read-b .1 in
     (ap (λ (r : Reading). r .number) (head-eq-of-cons-eq e), ap (λ (r : Reading). r .number) (head-eq-of-cons-eq (tail-eq-of-cons-eq e)))
 
-values : map (λ (row : ℕ × String). valueIn (ended "\n" b) (row .0)) fields ≡ map (λ (row : ℕ × String). bytes (row .1)) fields
-unfolding bytes begins same before isBetween inFront cutBehind bare withoutEnding linesOf lineAt withTaken fit next seek laterField tell moveOf following walk takenBy chain has lacking general pool details tree slots slotOf bodyOf takenIn b ended fields noLine takenFor Any.frontOf startBehind endOf lineIn valueIn
+values : map (λ (row : ℕ × String). fieldIn (ended "\n" b) (row .0)) fields ≡ map (λ (row : ℕ × String). bytes (row .1)) fields
+unfolding bytes begins same before isBetween inFront cutBehind bare withoutEnding linesOf lineAt withTaken fit next seek laterField tell moveOf following walk takenBy chain has lacking general pool details tree slots slotOf bodyOf takenIn b ended fields noLine takenFor Any.frontOf startBehind endOf lineIn fieldIn
 values = refl
 
 places : (offsetIn (ended "\n" b) 4 ≡ 108) × (offsetIn (ended "\r\n" b) 4 ≡ 117) × (offsetIn (ended "\n" b) 15 ≡ 306) × (offsetIn (ended "\r\n" b) 21 ≡ 470)
-unfolding bytes begins same before isBetween inFront cutBehind bare withoutEnding linesOf lineAt withTaken fit next seek laterField tell moveOf following walk takenBy chain has lacking general pool details tree slots slotOf bodyOf takenIn b ended fields noLine takenFor Any.frontOf startBehind endOf lineIn valueIn offsetIn
+unfolding bytes begins same before isBetween inFront cutBehind bare withoutEnding linesOf lineAt withTaken fit next seek laterField tell moveOf following walk takenBy chain has lacking general pool details tree slots slotOf bodyOf takenIn b ended fields noLine takenFor Any.frontOf startBehind endOf lineIn fieldIn offsetIn
 places = (refl, refl, refl, refl)
 
 pub answered : Answered

@@ -43,7 +43,7 @@ told-begins v h = and-left _ _ (unless-good (isNarrative v) (sym (number-form (s
 
 -- no fixed text alone is a value: one test over the slots, and the rule at each
 more : (slot : ℕ) → 1 ≤ slot → slot < 21 → valueNumber (slotOf slot) (slotOf slot .fixed) ≡ 0 → ⊥
-unfolding allBelow slotOf slots bytes begins before valueNumber formNumber unless isCode isWord wordAt same amountRead isAmount whole dateRead dateFrom momentRead momentFrom Numerals.fixedOf
+unfolding allBelow slotOf slots bytes begins before valueNumber formNumber unless isCode isWord wordAt same amountRead isAmount whole dateRead dateFrom momentRead momentFrom Numerals.wideNumber
 more slot low high h =
     let t = all-at 21 (λ i. not (leb 1 i) || not (eqb (valueNumber (slotOf i) (slotOf i .fixed)) 0)) refl slot high in
     eqb-false (valueNumber (slotOf slot) (slotOf slot .fixed)) 0 (not-true _ (rw (le-leb 1 slot low) at t)) h

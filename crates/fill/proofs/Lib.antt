@@ -1,3 +1,3 @@
 pub mod Runs
-pub mod Walks
-pub mod Turns
+pub mod Trees
+pub mod Rows

@@ -3,7 +3,7 @@
 use Prim.Native.Nat.{ℕ, _+_, _≤_}
 use mathlib.Core.Path.{_≡_, refl, sym, _∙_}
 use mathlib.Core.Bool.{Bool, true, false, cond}
-use mathlib.Core.List.{List, [], _∷_, _++_, append-assoc}
+use mathlib.Core.List.{List, [], _∷_, _++_, append-assoc, flatten}
 use native.Mathlib.Nat.{add-zero}
 use native.Mathlib.Omega.{arith}
 use lib.ListN.{length, take, drop, length-append}
@@ -11,7 +11,7 @@ use lib.Seq.{take-at}
 use borrow.Author.Tests.{le-leb}
 use Rattle.text.specs.Copy.{over, fits, placed, after}
 use Rattle.text.proofs.Laws.{over-nil, length-placed, run-placed, run-after}
-use Rattle.fill.specs.Runs.{overRun, behindRun, flat}
+use Rattle.fill.specs.Runs.{overRun, behindRun}
 
 -- ---- a part
 
@@ -84,14 +84,14 @@ none-run buf at = (refl, refl)
 
 -- ---- where all have room
 
-pub flat-append : (ss ts : List (List ℕ)) → flat (ss ++ ts) ≡ flat ss ++ flat ts
-unfolding flat
+pub flat-append : (ss ts : List (List ℕ)) → flatten (ss ++ ts) ≡ flatten ss ++ flatten ts
+unfolding flatten
 flat-append [] ts = refl
-flat-append (s ∷ ss) ts = rw (flat-append ss ts) (sym (append-assoc s (flat ss) (flat ts)))
+flat-append (s ∷ ss) ts = rw (flat-append ss ts) (sym (append-assoc s (flatten ss) (flatten ts)))
 
-run-whole : (ss : List (List ℕ)) (buf : List ℕ) (at : ℕ) → at + length (flat ss) ≤ length buf
-    → (behindRun buf at ss ≡ after buf at (flat ss)) × (overRun buf at ss ≡ placed buf at (flat ss))
-unfolding flat behindRun overRun after fits placed
+run-whole : (ss : List (List ℕ)) (buf : List ℕ) (at : ℕ) → at + length (flatten ss) ≤ length buf
+    → (behindRun buf at ss ≡ after buf at (flatten ss)) × (overRun buf at ss ≡ placed buf at (flatten ss))
+unfolding flatten behindRun overRun after fits placed
 run-whole [] buf at h = (nothing-after (fits buf at []), nothing-placed (fits buf at []))
   where
     nothing-after : (b : Bool) → at ≡ cond b (at + 0) at
@@ -102,12 +102,12 @@ run-whole [] buf at h = (nothing-after (fits buf at []), nothing-placed (fits bu
     nothing-placed true = sym (over-nil buf at)
     nothing-placed false = refl
 run-whole (s ∷ ss) buf at h =
-    let l = length-append s (flat ss) in
-    let f : fits buf at (s ++ flat ss) ≡ true = le-leb (at + length (s ++ flat ss)) (length buf) h in
+    let l = length-append s (flatten ss) in
+    let f : fits buf at (s ++ flatten ss) ≡ true = le-leb (at + length (s ++ flatten ss)) (length buf) h in
     let e = end-of buf at s {r = after buf at s} refl (omega arith) in
     let n = length-placed buf at s in
     let ih = run-whole ss (placed buf at s) (after buf at s) (omega arith) in
-    (ih .0 ∙ run-after buf at s (flat ss) f, ih .1 ∙ run-placed buf at s (flat ss) f)
+    (ih .0 ∙ run-after buf at s (flatten ss) f, ih .1 ∙ run-placed buf at s (flatten ss) f)
 
-pub whole : (ss : List (List ℕ)) (buf : List ℕ) (at : ℕ) {r : ℕ} {now : List ℕ} → Run buf at ss r now → at + length (flat ss) ≤ length buf → Put buf at (flat ss) r now
+pub whole : (ss : List (List ℕ)) (buf : List ℕ) (at : ℕ) {r : ℕ} {now : List ℕ} → Run buf at ss r now → at + length (flatten ss) ≤ length buf → Put buf at (flatten ss) r now
 whole ss buf at p h = let w = run-whole ss buf at h in (p .0 ∙ w .0, p .1 ∙ w .1)

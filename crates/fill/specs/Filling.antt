@@ -1,5 +1,5 @@
 -- The rows of a table with the values of its slots: which rows stand, and what each of them puts. For a table that is written as
--- a tree it is the lines of the tree filled in (sheets' specs/Filled), which proofs/Walks says.
+-- a tree it is the lines of the tree filled in (sheets' specs/Filled), which proofs/Trees says.
 use Prim.Native.Nat.{ℕ, zero, suc}
 use mathlib.Core.Bool.{Bool, true, false, _&&_, _||_, cond}
 use mathlib.Core.List.{List, [], _∷_, _++_}
@@ -33,11 +33,11 @@ abbrev pub valueAt : Lent → ℕ → List ℕ
 valueAt l slot = stretchOf (l .text) (l .starts) (l .ends) slot
 
 -- the fixed text in front of a value of n bytes; nothing where an optional slot has none
-unfoldable pub frontOf : List ℕ → List ℕ → ℕ → ℕ → List ℕ
-frontOf slots optional slot n = cond (isAny optional slot && eqb n 0) [] (slotAt slots slot .fixed)
+unfoldable pub fixedIn : List ℕ → List ℕ → ℕ → ℕ → List ℕ
+fixedIn slots optional slot n = cond (isAny optional slot && eqb n 0) [] (slotAt slots slot .fixed)
 
 abbrev pub frontAt : Lent → ℕ → List ℕ
-frontAt l slot = frontOf (l .slots) (l .optional) slot (length (valueAt l slot))
+frontAt l slot = fixedIn (l .slots) (l .optional) slot (length (valueAt l slot))
 
 -- both
 abbrev pub behindAt : Lent → ℕ → List ℕ

@@ -1,3 +1,3 @@
 pub mod Runs
 pub mod Filling
-pub mod Walks
+pub mod Steps

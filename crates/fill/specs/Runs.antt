@@ -10,8 +10,3 @@ overRun buf at (s ∷ ss) = overRun (placed buf at s) (after buf at s) ss
 unfoldable pub behindRun : List ℕ → ℕ → List (List ℕ) → ℕ
 behindRun buf at [] = at
 behindRun buf at (s ∷ ss) = behindRun (placed buf at s) (after buf at s) ss
-
--- the parts joined: what is put where all have room
-unfoldable pub flat : List (List ℕ) → List ℕ
-flat [] = []
-flat (s ∷ ss) = s ++ flat ss

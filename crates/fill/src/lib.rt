@@ -3,7 +3,7 @@
 // The values are lent as reading keeps them: a text, and for each slot where its value begins and ends. With them a message type
 // lends the bytes of its table and of its slots, and the numbers of the slots that are optional; nothing here knows a record. All
 // are parameters wherever a slot is looked up, since a struct of references is none of the forms that can be proved. What is right
-// stands in specs/Filling and specs/Runs; specs/Walks serves the steps in between.
+// stands in specs/Filling and specs/Runs; specs/Steps serves the steps in between.
 mod parts;
 mod standing;
 
@@ -15,7 +15,7 @@ ghost use lib.ListN.{length};
 ghost use Rattle.layout.specs.Rows.{textAt};
 ghost use Rattle.fill.specs.Runs.{overRun, behindRun};
 ghost use Rattle.fill.specs.Filling.{lent, isAny, filling};
-ghost use Rattle.fill.specs.Walks.{putAt, offAt, openerAt};
+ghost use Rattle.fill.specs.Steps.{putAt, offAt, openerAt};
 
 // Where the walk is: the place in the buffer, the blocks since one that does not stand, and the row of the last many blocks.
 struct Walk {

@@ -5,8 +5,8 @@ ghost use mathlib.Core.Bool.{_&&_};
 ghost use lib.Dec.{eqb};
 ghost use Rattle.stretches.specs.Stretches.{stretchOf};
 ghost use Rattle.fill.specs.Runs.{overRun, behindRun};
-ghost use Rattle.fill.specs.Filling.{isAny, frontOf, ended};
-ghost use Rattle.fill.specs.Walks.{held, putsOf};
+ghost use Rattle.fill.specs.Filling.{isAny, fixedIn, ended};
+ghost use Rattle.fill.specs.Steps.{lineParts, putsOf};
 
 // A number is one of two.
 pub(crate) fn either(n: u8, a: u8, b: u8) -> bool
@@ -44,7 +44,7 @@ pub(crate) fn front<'a, 'b>(
     slot: u8,
     length: usize,
 ) -> &'a [u8]
-    ensures { λ r. ⌜ now r ≡ frontOf (now (slots .entry)) (now (optional .entry)) slot length ⌝ }
+    ensures { λ r. ⌜ now r ≡ fixedIn (now (slots .entry)) (now (optional .entry)) slot length ⌝ }
 {
     if is_absent(optional, slot, length) {
         return &slots[..0];
@@ -62,7 +62,7 @@ fn put_edge(buf: &mut [u8], at: usize, key: &[u8]) -> usize
 
 // The line of a slot: its text, the fixed text and the value.
 fn put_line(buf: &mut [u8], at: usize, key: &[u8], front: &[u8], value: &[u8]) -> usize
-    ensures { λ r. ⌜ (r ≡ behindRun (now (buf .entry)) at (held (now (key .entry)) (now (front .entry)) (now (value .entry)))) × (now (buf .exit) ≡ overRun (now (buf .entry)) at (held (now (key .entry)) (now (front .entry)) (now (value .entry)))) ⌝ }
+    ensures { λ r. ⌜ (r ≡ behindRun (now (buf .entry)) at (lineParts (now (key .entry)) (now (front .entry)) (now (value .entry)))) × (now (buf .exit) ≡ overRun (now (buf .entry)) at (lineParts (now (key .entry)) (now (front .entry)) (now (value .entry)))) ⌝ }
 {
     let fixed = text::put(buf, at, key);
     let from = text::put(buf, fixed, front);

@@ -10,7 +10,7 @@ ghost use lib.ListN.{drop};
 ghost use Rattle.layout.specs.Rows.{rowOf, rowsOf};
 ghost use Rattle.sheets.specs.Filled.{some};
 ghost use Rattle.fill.specs.Filling.{lent, behindAt, lower, deeper, hasValue, anyRows, stands};
-ghost use Rattle.fill.specs.Walks.{isOn};
+ghost use Rattle.fill.specs.Steps.{isOn};
 
 fn lower(deep: usize) -> usize
     ensures { λ r. ⌜ r ≡ lower deep ⌝ }

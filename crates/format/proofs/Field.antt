@@ -17,7 +17,7 @@ use Rattle.layout.specs.Layout.{Taken, taken}
 use Rattle.forms.specs.Forms.{valueNumber}
 use Rattle.sheets.specs.Trees.{tableOf}
 use Rattle.sheets.specs.Slots.{slotsOf}
-use Rattle.sheets.specs.Sheets.{Entry, edge, held, come, has}
+use Rattle.sheets.specs.Sheets.{Entry, edge, item, come, has}
 use Rattle.sheets.specs.Filled.{valueIn}
 use Rattle.text.proofs.Bools.{is-false, or-one, or-left, or-right, or-case}
 use Rattle.sheets.proofs.Accepts.{takenOn}
@@ -50,7 +50,7 @@ value-taken : (es : List Entry) (n slot : ℕ) → takenFor slot (takenOn n es) 
 unfolding takenFor takenOn valueIn noLine
 value-taken [] n slot = refl
 value-taken (edge o ∷ es) n slot = value-taken es (suc n) slot
-value-taken (held i k v ∷ es) n slot = go (eqb i slot) (value-taken es (suc n) slot)
+value-taken (item i k v ∷ es) n slot = go (eqb i slot) (value-taken es (suc n) slot)
   where
     go : (b : Bool) → takenFor slot (takenOn (suc n) es) .value ≡ valueIn es slot
         → cond b (record { slot = i; line = n; value = v }) (takenFor slot (takenOn (suc n) es)) .value ≡ cond b v (valueIn es slot)
@@ -61,13 +61,13 @@ none-taken : (es : List Entry) (n slot : ℕ) → has (slotsHeld es) slot ≡ fa
 unfolding takenFor takenOn slotsHeld has
 none-taken [] n slot h = refl
 none-taken (edge o ∷ es) n slot h = none-taken es (suc n) slot h
-none-taken (held i k v ∷ es) n slot h = rw (or-left (eqb i slot) _ h) (none-taken es (suc n) slot (or-right (eqb i slot) _ h))
+none-taken (item i k v ∷ es) n slot h = rw (or-left (eqb i slot) _ h) (none-taken es (suc n) slot (or-right (eqb i slot) _ h))
 
 held-come : (es : List Entry) (slots : List ℕ) (s : ℕ) → has (slotsHeld es) s ≡ true → has (come slots es) s ≡ true
 unfolding slotsHeld has come
 held-come [] slots s h = absurd (true≢false (sym h))
 held-come (edge o ∷ es) slots s h = held-come es slots s h
-held-come (held i k v ∷ es) slots s h =
+held-come (item i k v ∷ es) slots s h =
     or-case (eqb i s) (has (slotsHeld es) s) h (λ e. come-more es (i ∷ slots) s (or-one (eqb i s) _ e)) (λ e. held-come es (i ∷ slots) s e)
 
 module _ (F : Format) where

@@ -10,7 +10,7 @@ use lib.ListN.{length, length-append}
 use Rattle.text.specs.Bytes.{bytes}
 use Rattle.lines.specs.Lines.{joined}
 use Rattle.sheets.specs.Trees.{Field, Member, Tree, last, line, block, group}
-use Rattle.sheets.specs.Sheets.{Entry, edge, held, lineOf, linesIn}
+use Rattle.sheets.specs.Sheets.{Entry, edge, item, lineOf, linesIn}
 use Rattle.sheets.specs.Filled.{some, anyField, anyMember, anyIn, filledFields, filledMembers, filled}
 
 -- the bytes of a sheet
@@ -77,11 +77,11 @@ module _ (value wide : ℕ → List ℕ) (most : (s : ℕ) → length (value s) 
   any-in (group n a o c ms t) e = implies-or _ _ _ _ (any-member ms) (any-in t) e
 
   -- a line in front
-  held-grows : (s : ℕ) (k : List ℕ) (es ds : List Entry) → size es ≤ size ds → size (held s k (value s) ∷ es) ≤ size (held s k (wide s) ∷ ds)
+  held-grows : (s : ℕ) (k : List ℕ) (es ds : List Entry) → size es ≤ size ds → size (item s k (value s) ∷ es) ≤ size (item s k (wide s) ∷ ds)
   unfolding lineOf
   held-grows s k es ds h =
-      let p = size-next (held s k (value s)) es in
-      let q = size-next (held s k (wide s)) ds in
+      let p = size-next (item s k (value s)) es in
+      let q = size-next (item s k (wide s)) ds in
       let x = length-append k (value s) in
       let y = length-append k (wide s) in
       let m = most s in
@@ -101,8 +101,8 @@ module _ (value wide : ℕ → List ℕ) (most : (s : ℕ) → length (value s) 
 
   -- a field's line, and what is left
   line-grows : (f : Field) (es ds : List Entry) → size es ≤ size ds
-      → size (cond (f .must || some (value (f .slot))) (held (f .slot) (f .key) (value (f .slot)) ∷ es) es)
-      ≤ size (cond (f .must || some (wide (f .slot))) (held (f .slot) (f .key) (wide (f .slot)) ∷ ds) ds)
+      → size (cond (f .must || some (value (f .slot))) (item (f .slot) (f .key) (value (f .slot)) ∷ es) es)
+      ≤ size (cond (f .must || some (wide (f .slot))) (item (f .slot) (f .key) (wide (f .slot)) ∷ ds) ds)
   line-grows f es ds h =
       chosen _ _ _ _ _ _ (implies-or (f .must) _ (f .must) _ (λ e. e) (some-most (f .slot))) (held-grows (f .slot) (f .key) es ds h) h (longer _ ds)
 
@@ -119,8 +119,8 @@ module _ (value wide : ℕ → List ℕ) (most : (s : ℕ) → length (value s) 
       chosen _ _ _ _ _ _ (some-most (m .slot))
       (edge-grows o _ _ (held-grows (m .slot) (m .key) _ _ (append-grows _ _ _ _ (fields-grow (m .inside) c) rest)))
       rest
-      (let x = longer (edge o) (held (m .slot) (m .key) (wide (m .slot)) ∷ (filledFields wide (m .inside) c ++ filledMembers wide o c ms)) in
-      let y = longer (held (m .slot) (m .key) (wide (m .slot))) (filledFields wide (m .inside) c ++ filledMembers wide o c ms) in
+      (let x = longer (edge o) (item (m .slot) (m .key) (wide (m .slot)) ∷ (filledFields wide (m .inside) c ++ filledMembers wide o c ms)) in
+      let y = longer (item (m .slot) (m .key) (wide (m .slot))) (filledFields wide (m .inside) c ++ filledMembers wide o c ms) in
       let z = behind (filledFields wide (m .inside) c) (filledMembers wide o c ms) in
       omega arith)
 

@@ -16,7 +16,7 @@ use Rattle.lines.specs.Verdicts.{pass}
 use Rattle.lines.specs.declared.Verdict.{Verdict}
 use Rattle.blocks.specs.Blocks.{isTagged, nameOf, named, roleOf, goes, ending, opening, closing, turn, follow, nest}
 use Rattle.sheets.specs.Trees.{Field, Member, Tree, last, line, block, group, chain}
-use Rattle.sheets.specs.Sheets.{Entry, edge, held, lineOf, linesIn, Among, front, later, Laid, shut, given, absent, opened, passed, member, done}
+use Rattle.sheets.specs.Sheets.{Entry, edge, item, lineOf, linesIn, Among, front, later, Laid, shut, given, absent, opened, passed, member, done}
 use Rattle.sheets.specs.Filled.{some}
 use Rattle.sheets.proofs.Checks.{full}
 use Rattle.sheets.proofs.Accepts.{lines-append}
@@ -109,10 +109,10 @@ nests-both n blocks outer es ds after h k more =
 
 -- a field, and then what stands behind it
 nests-held : (n : ℕ) (blocks : List (List ℕ)) (s : ℕ) (k v : List ℕ) (es : List Entry) (after : ℕ → List (List ℕ) → Verdict)
-    → fieldKey k ≡ true → full (held s k v ∷ es) ≡ true → (full es ≡ true → Nests (suc n) blocks es after) → Nests n blocks (held s k v ∷ es) after
+    → fieldKey k ≡ true → full (item s k v ∷ es) ≡ true → (full es ≡ true → Nests (suc n) blocks es after) → Nests n blocks (item s k v ∷ es) after
 unfolding lineOf full
 nests-held n blocks s k v es after h f rest =
-    nests-line n blocks blocks (held s k v) es after (turn-field k v blocks h (and-left _ _ f)) (rest (and-right (some v) _ f))
+    nests-line n blocks blocks (item s k v) es after (turn-field k v blocks h (and-left _ _ f)) (rest (and-right (some v) _ f))
 
 -- the first line of a block, and then what it holds
 nests-opens : (n d : ℕ) (blocks : List (List ℕ)) (o : List ℕ) (es : List Entry) (after : ℕ → List (List ℕ) → Verdict)
@@ -149,13 +149,13 @@ full-left : (es ds : List Entry) → full (es ++ ds) ≡ true → full es ≡ tr
 unfolding full
 full-left [] ds h = refl
 full-left (edge o ∷ es) ds h = full-left es ds h
-full-left (held s k v ∷ es) ds h = and-both (and-left (some v) _ h) (full-left es ds (and-right (some v) _ h))
+full-left (item s k v ∷ es) ds h = and-both (and-left (some v) _ h) (full-left es ds (and-right (some v) _ h))
 
 full-right : (es ds : List Entry) → full (es ++ ds) ≡ true → full ds ≡ true
 unfolding full
 full-right [] ds h = h
 full-right (edge o ∷ es) ds h = full-right es ds h
-full-right (held s k v ∷ es) ds h = full-right es ds (and-right (some v) _ h)
+full-right (item s k v ∷ es) ds h = full-right es ds (and-right (some v) _ h)
 
 -- the tests of one of many blocks, from those of all
 among-keys : {m : Member} {ms : List Member} → Among m ms → memberKeys ms ≡ true → (fieldKey (m .key) ≡ true) × (fieldKeys (m .inside) ≡ true)
@@ -191,7 +191,7 @@ nests (member {o = o} {c = c} {ms = ms} {t = t} {m = m} {es = es} {ds = ds} v i 
     let b = and-right (opensAt d o) _ h in
     let keys = among-keys i (and-left (memberKeys ms) (nestable d z t) (and-right (same (closer o) c) _ b)) in
     let inner = nestable-chain (suc d) (closer o) c (m .inside) (and-left _ _ b) (keys .1) in
-    nests-opens n d blocks o (held (m .slot) (m .key) v ∷ (es ++ ds)) after a e
+    nests-opens n d blocks o (item (m .slot) (m .key) v ∷ (es ++ ds)) after a e
     (nests-held (suc n) (nameOf o ∷ blocks) (m .slot) (m .key) v (es ++ ds) after (keys .0) f
     (λ x. nests-both (suc (suc n)) (nameOf o ∷ blocks) blocks es ds after
     (nests l (suc d) (closer o) (nameOf o ∷ blocks) (λ j. nest j blocks) inner (ap suc e) (full-left es ds x) (ends-block d blocks o a) (suc (suc n)))

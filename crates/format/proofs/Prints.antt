@@ -10,7 +10,7 @@ use Rattle.lines.proofs.Joins.{allPrintable, printable-append}
 use Rattle.forms.specs.Forms.{Slot, valueNumber}
 use Rattle.forms.proofs.Printing.{printedForm, value-printed}
 use Rattle.sheets.specs.Trees.{Field, Member, Tree, last, line, block, group, chain}
-use Rattle.sheets.specs.Sheets.{Entry, edge, held, lineOf, linesIn, Among, front, later, Laid, shut, given, absent, opened, passed, member, done}
+use Rattle.sheets.specs.Sheets.{Entry, edge, item, lineOf, linesIn, Among, front, later, Laid, shut, given, absent, opened, passed, member, done}
 use Rattle.sheets.proofs.Order.{lines-both}
 
 -- ---- the texts of a table
@@ -44,19 +44,19 @@ among-texts (later {k = k} i) h = among-texts i (and-right (fieldTexts (k .insid
 unfoldable pub Printed : List Entry → Type 0
 Printed [] = Unit
 Printed (edge o ∷ es) = Printed es
-Printed (held s k v ∷ es) = (printed v ≡ true) × Printed es
+Printed (item s k v ∷ es) = (printed v ≡ true) × Printed es
 
 left-printed : (es ds : List Entry) → Printed (es ++ ds) → Printed es
 unfolding Printed
 left-printed [] ds h = tt
 left-printed (edge o ∷ es) ds h = left-printed es ds h
-left-printed (held s k v ∷ es) ds h = (h .0, left-printed es ds (h .1))
+left-printed (item s k v ∷ es) ds h = (h .0, left-printed es ds (h .1))
 
 right-printed : (es ds : List Entry) → Printed (es ++ ds) → Printed ds
 unfolding Printed
 right-printed [] ds h = h
 right-printed (edge o ∷ es) ds h = right-printed es ds h
-right-printed (held s k v ∷ es) ds h = right-printed es ds (h .1)
+right-printed (item s k v ∷ es) ds h = right-printed es ds (h .1)
 
 abbrev Lined : List Entry → Type 0
 Lined es = allPrintable (linesIn es) ≡ true
@@ -65,7 +65,7 @@ edge-more : (o : List ℕ) (es : List Entry) → printed o ≡ true → Lined es
 unfolding linesIn lineOf allPrintable
 edge-more o es h r = and-both h r
 
-held-more : (s : ℕ) (k v : List ℕ) (es : List Entry) → printed k ≡ true → printed v ≡ true → Lined es → Lined (held s k v ∷ es)
+held-more : (s : ℕ) (k v : List ℕ) (es : List Entry) → printed k ≡ true → printed v ≡ true → Lined es → Lined (item s k v ∷ es)
 unfolding linesIn lineOf allPrintable
 held-more s k v es h e r = and-both (printed-append k v h e) r
 
@@ -85,7 +85,7 @@ laid-printed (passed {o = o} {t = t} z r) h p = laid-printed r (and-right (texts
 laid-printed (member {o = o} {c = c} {ms = ms} {m = m} {es = es} {ds = ds} v i z l r) h p =
     let k = and-right (printed o) _ h in
     let g = among-texts i (and-left (memberTexts ms) _ (and-right (printed c) _ k)) in
-    edge-more o (held (m .slot) (m .key) v ∷ (es ++ ds)) (and-left _ _ h)
+    edge-more o (item (m .slot) (m .key) v ∷ (es ++ ds)) (and-left _ _ h)
     (held-more (m .slot) (m .key) v (es ++ ds) (g .0) (p .0)
     (both-more es ds (laid-printed l (chain-texts (m .inside) c (g .1) (and-left _ _ k)) (left-printed es ds (p .1))) (laid-printed r h (right-printed es ds (p .1)))))
 laid-printed (done {o = o} {c = c} {ms = ms} z l) h p = laid-printed l (and-right (memberTexts ms) _ (and-right (printed c) _ (and-right (printed o) _ h))) p

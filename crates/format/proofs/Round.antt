@@ -19,7 +19,7 @@ use Rattle.lines.specs.declared.Verdict.{Verdict}
 use Rattle.lines.proofs.Laws.{then-zero, plain}
 use Rattle.lines.proofs.Joins.{printable-append, Whole, lines-joined, passes-joined}
 use Rattle.forms.specs.Forms.{valueNumber}
-use Rattle.sheets.specs.Sheets.{Entry, edge, held, linesIn, has, Sheet}
+use Rattle.sheets.specs.Sheets.{Entry, edge, item, linesIn, has, Sheet}
 use Rattle.sheets.specs.Slots.{slotsOf}
 use Rattle.sheets.specs.Filled.{some, valueIn, filled}
 use Rattle.sheets.specs.Plain.{anyLine}
@@ -85,7 +85,7 @@ module _ (F : Format) (L : Layout F) where
   unfolding Valued Printed slotsHeld has
   valued-printed [] f h = tt
   valued-printed (edge o ∷ es) f h = valued-printed es f h
-  valued-printed (held s k v ∷ es) f h =
+  valued-printed (item s k v ∷ es) f h =
       (slot-printed s v (in-tree s (f s (or-one (eqb s s) _ (eq-eqb s s refl)))) (h .0), valued-printed es (λ x e. f x (or-two (eqb s x) _ e)) (h .1))
 
   pub whole-lines : (value : ℕ → List ℕ) (es : List Entry) → ((s : ℕ) → has (F .header) s ≡ true → valueNumber (F .slotOf s) (headLine F value s) ≡ 0) → Sheet (F .tree) es → Valued F es
@@ -129,7 +129,7 @@ module _ (F : Format) (L : Layout F) where
     unfolding Fits full slotsHeld has Valued
     all-valued [] f k n = tt
     all-valued (edge o ∷ es) f k n = all-valued es f k n
-    all-valued (held s x v ∷ es) f k n = (
+    all-valued (item s x v ∷ es) f k n = (
       good-value s v (n s (or-one (eqb s s) _ (eq-eqb s s refl))) (and-left (some v) _ k) (f .0),
       all-valued es (f .1) (and-right (some v) _ k) (λ y e. n y (or-two (eqb s y) _ e)),
     )
@@ -231,7 +231,7 @@ module _ (F : Format) (L : Layout F) where
           rules = rules-kept;
         }
 
-    pub written-read : readOf F (messageOf F r) ≡ record { number = 0; line = 0; held = r }
+    pub written-read : readOf F (messageOf F r) ≡ record { number = 0; line = 0; item = r }
     written-read =
         let z = lawful-accepted F L W (messageOf F r) written-lawful in
         let l = filled-sheet (F .valueOf r) held-in in

@@ -13,7 +13,7 @@ use Rattle.lines.specs.Lines.{linesOf}
 use Rattle.lines.proofs.Laws.{then-zero}
 use Rattle.forms.specs.Forms.{valueNumber}
 use Rattle.sheets.specs.Slots.{slotsOf}
-use Rattle.sheets.specs.Sheets.{Entry, edge, held, has, Sheet}
+use Rattle.sheets.specs.Sheets.{Entry, edge, item, has, Sheet}
 use Rattle.sheets.specs.Filled.{some, valueIn}
 use Rattle.text.proofs.Bools.{or-one, or-two, of-both}
 use Rattle.sheets.proofs.Accepts.{takenOn}
@@ -36,7 +36,7 @@ module _ (F : Format) where
   unfolding Valued takenOn valuesPass valueVerdict then pass refused
   values-pass [] n h = refl
   values-pass (edge o ∷ es) n h = values-pass es (suc n) h
-  values-pass (held s k v ∷ es) n h = rw (h .0) (values-pass es (suc n) (h .1))
+  values-pass (item s k v ∷ es) n h = rw (h .0) (values-pass es (suc n) (h .1))
 
   verdict-zero : (s n : ℕ) (v : List ℕ) → valueVerdict (F .slotOf) (record { slot = s; line = n; value = v }) .number ≡ 0 → valueNumber (F .slotOf s) v ≡ 0
   unfolding valueVerdict pass refused
@@ -50,7 +50,7 @@ module _ (F : Format) where
   unfolding Valued takenOn valuesPass
   valued [] n h = tt
   valued (edge o ∷ es) n h = valued es (suc n) h
-  valued (held s k v ∷ es) n h =
+  valued (item s k v ∷ es) n h =
       let (a, b) = then-zero (valueVerdict (F .slotOf) (record { slot = s; line = n; value = v })) (valuesPass (F .slotOf) (takenOn (suc n) es)) h in
       (verdict-zero s n v a, valued es (suc n) b)
 
@@ -59,7 +59,7 @@ module _ (F : Format) where
   unfolding Valued slotsHeld has valueIn
   valued-at [] s h e = absurd (true≢false (sym e))
   valued-at (edge o ∷ es) s h e = valued-at es s h e
-  valued-at (held i k v ∷ es) s h e =
+  valued-at (item i k v ∷ es) s h e =
       of-both (λ x. valueNumber (F .slotOf s) x ≡ 0) (eqb i s) (λ q. rw (← (eqb-true i s q)) (h .0)) (λ q. valued-at es s (h .1) (rw q at e))
 
   -- ---- a value among the lines that were taken
@@ -69,7 +69,7 @@ module _ (F : Format) where
   unfolding valueFrom takenOn slotsHeld has valueIn Once
   value-from s [] n d h = refl
   value-from s (edge o ∷ es) n d h = value-from s es (suc n) d h
-  value-from s (held i k v ∷ es) n d h = value-from s es (suc n) (cond (eqb i s) (drop (length (F .slotOf s .fixed)) v) d) (h .1) ∙ on (eqb i s) refl
+  value-from s (item i k v ∷ es) n d h = value-from s es (suc n) (cond (eqb i s) (drop (length (F .slotOf s .fixed)) v) d) (h .1) ∙ on (eqb i s) refl
     where
       on : (b : Bool) → eqb i s ≡ b
           → cond (has (slotsHeld es) s) (drop (length (F .slotOf s .fixed)) (valueIn es s)) (cond b (drop (length (F .slotOf s .fixed)) v) d)
@@ -83,10 +83,10 @@ module _ (F : Format) where
     unfolding Valued full slotsHeld has some
     all-full [] f h = refl
     all-full (edge o ∷ es) f h = all-full es f h
-    all-full (held s k [] ∷ es) f h =
+    all-full (item s k [] ∷ es) f h =
         absurd (eqb-false (valueNumber (F .slotOf s) []) 0
         (not-true _ (every-at (λ x. not (eqb (valueNumber (F .slotOf x) []) 0)) (slotsOf (F .tree)) s (L .none-bare) (f s (or-one (eqb s s) _ (eq-eqb s s refl))))) (h .0))
-    all-full (held s k (b ∷ v) ∷ es) f h = all-full es (λ x e. f x (or-two (eqb s x) _ e)) (h .1)
+    all-full (item s k (b ∷ v) ∷ es) f h = all-full es (λ x e. f x (or-two (eqb s x) _ e)) (h .1)
 
     pub sheet-full : (es : List Entry) → Sheet (F .tree) es → Valued F es → full es ≡ true
     sheet-full es l h = all-full es (λ s e. inside s l e) h

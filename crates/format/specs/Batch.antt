@@ -1,8 +1,8 @@
 -- Document 01, "Batch", of any message type: of records that were written one behind the other, what takes the pieces of the batch one by
--- one (pieces' specs/Turns) gives just these records and then says "done". `told` is how a read's answer is put together.
+-- one (pieces' specs/Calls) gives just these records and then says "done". `told` is how a read's answer is put together.
 use Prim.Native.Nat.{ℕ}
 use mathlib.Core.List.{List, map}
-use Rattle.pieces.specs.Turns.{Gives, Takes}
+use Rattle.pieces.specs.Calls.{Gives, Takes}
 use Rattle.pieces.specs.declared.Turn.{Turn}
 use Rattle.format.specs.Format.{Format}
 use Rattle.format.specs.Reading.{Read, readOf}

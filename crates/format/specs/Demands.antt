@@ -3,11 +3,11 @@
 use Prim.Native.Nat.{ℕ, _≤_}
 use mathlib.Core.Path.{_≡_}
 use mathlib.Core.Bool.{true}
-use mathlib.Core.List.{List, [], _∷_, _++_, map}
+use mathlib.Core.List.{List, [], _∷_, _++_, map, flatten}
 use mathlib.Core.Logic.{_↔_, _⊎_}
 use lib.ListN.{length}
 use Rattle.text.specs.Copy.{over}
-use Rattle.pieces.specs.Pieces.{pieces, together}
+use Rattle.pieces.specs.Pieces.{pieces}
 use Rattle.format.specs.Format.{Format}
 use Rattle.format.specs.Reading.{Read, readOf}
 use Rattle.format.specs.Lawful.{saidIn, Lawful}
@@ -31,7 +31,7 @@ module _ (F : Format) where
 
   -- records that are written, one message after another
   abbrev pub written : List (F .Held) → List ℕ
-  written rs = together (map (messageOf F) rs)
+  written rs = flatten (map (messageOf F) rs)
 
   pub record Demands : Type 0 where
     -- 2. It accepts a message exactly when the layout and the rules are met, and reads every field as they say

@@ -8,7 +8,7 @@ use mathlib.Core.List.{List, [], _∷_}
 use lib.ListN.{length, drop}
 use Rattle.lines.specs.Lines.{linesOf, linesPass}
 use Rattle.forms.specs.Forms.{valueNumber}
-use Rattle.sheets.specs.Sheets.{Entry, edge, held, linesIn, has, Sheet}
+use Rattle.sheets.specs.Sheets.{Entry, edge, item, linesIn, has, Sheet}
 use Rattle.sheets.specs.Filled.{valueIn}
 use Rattle.reader.specs.Header.{headPass, headValue}
 use Rattle.format.specs.Format.{Format}
@@ -19,7 +19,7 @@ module _ (F : Format) where
   unfoldable pub Valued : List Entry → Type 0
   Valued [] = Unit
   Valued (edge o ∷ es) = Valued es
-  Valued (held s k v ∷ es) = (valueNumber (F .slotOf s) v ≡ 0) × Valued es
+  Valued (item s k v ∷ es) = (valueNumber (F .slotOf s) v ≡ 0) × Valued es
 
   -- what a message says of a slot, behind the slot's fixed text: on its line of the header, or of the sheet
   unfoldable pub saidIn : List ℕ → List Entry → ℕ → List ℕ

@@ -13,7 +13,7 @@ use Rattle.text.specs.Bytes.{begins, same}
 use Rattle.text.specs.Classes.{allIn, isCode}
 use Rattle.text.specs.declared.Class.the-variants.{C, Digit}
 use Rattle.text.proofs.Laws.{and-left, and-right, same-eq, begins-is}
-use Rattle.amount.specs.Amounts.{isAmount, valueOf, amountRead, amountNumber}
+use Rattle.amount.specs.Amounts.{isAmount, meaning, amountRead, amountNumber}
 use Rattle.amount.specs.declared.AmountRead.{AmountRead}
 use Rattle.calendar.specs.Dates.{dateRead, dateNumber, momentRead, momentNumber}
 use Rattle.calendar.specs.declared.DateRead.{DateRead}
@@ -21,7 +21,7 @@ use Rattle.calendar.specs.declared.MomentRead.{MomentRead}
 use Rattle.calendar.proofs.Laws.{date-back, date-length, date-digits, moment-back, moment-length, moment-digits}
 use Rattle.forms.specs.Forms.{Slot, wordAt, isWord, unless, formNumber, valueNumber}
 use Rattle.forms.specs.Slots.{reaches, textIn, slotAt}
-use Rattle.forms.proofs.Turns.{after-fixed}
+use Rattle.forms.proofs.Parts.{after-fixed}
 
 either : (b : Bool) (x : List ℕ) → length x ≤ 16 → length (cond {A = List ℕ} b x []) ≤ 16
 either true x h = h
@@ -75,7 +75,7 @@ pub amount-good : (v : List ℕ) → amountNumber (amountRead v) ≡ 0 → isAmo
 unfolding amountRead
 amount-good v e = go (isAmount v) e
   where
-    go : (b : Bool) → amountNumber (cond b (AmountRead.Good (valueOf v)) AmountRead.Wrong) ≡ 0 → b ≡ true
+    go : (b : Bool) → amountNumber (cond b (AmountRead.Good (meaning v)) AmountRead.Wrong) ≡ 0 → b ≡ true
     go true h = refl
     go false h = let z : ⊥ = omega arith in absurd z
 

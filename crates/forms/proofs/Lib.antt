@@ -1,5 +1,5 @@
 pub mod Laws
-pub mod Turns
+pub mod Parts
 pub mod Tables
 pub mod Narratives
 pub mod Printing

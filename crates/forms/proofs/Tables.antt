@@ -11,7 +11,7 @@ use lib.ListN.{length, getD, List·getD-eq-default}
 use borrow.Author.Tests.{ltb-true, ltb-false}
 use Rattle.forms.specs.Forms.{Slot, other}
 use Rattle.forms.specs.Slots.{slotAt}
-use Rattle.forms.proofs.Turns.{slot-none}
+use Rattle.forms.proofs.Parts.{slot-none}
 
 -- the slots of some bytes, from the k-th on
 abbrev pub places : List ℕ → ℕ → ℕ → List Slot

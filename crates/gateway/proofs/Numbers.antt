@@ -10,7 +10,7 @@ use lib.ListN.{drop}
 use Rattle.text.specs.Bytes.{same}
 use Rattle.lines.specs.Verdicts.{when}
 use Rattle.pieces.specs.Pieces.{pieceOf}
-use Rattle.pieces.specs.Turns.{turnOf}
+use Rattle.pieces.specs.Calls.{turnOf}
 use Rattle.pieces.specs.declared.Turn.{Turn}
 use Rattle.format.specs.Reading as Any
 use Rattle.format.proofs.Numbers.{few, Few, then-few, when-few, read-few, plain-few, write-few}

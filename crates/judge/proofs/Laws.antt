@@ -13,7 +13,7 @@ use Rattle.values.specs.Values.{valueOf}
 use Rattle.values.specs.Writable.{inForm}
 use Rattle.values.proofs.Laws.{told-short}
 use Rattle.judge.specs.Judging.{judgeOf}
-use Rattle.judge.proofs.Turns.{nothing-wrong}
+use Rattle.judge.proofs.Tests.{nothing-wrong}
 
 module _ (t : Trade) where
   pub judge-good : inForm t ≡ true → recordPass t .number ≡ 0 → judgeOf t ≡ 0

@@ -15,7 +15,7 @@ use Rattle.text.specs.Bytes.{begins, same, parts}
 use Rattle.text.proofs.Bools.{of-both}
 use Rattle.text.proofs.Laws.{begins-is, parts-from, length-parts}
 use Rattle.layout.specs.Rows.{Row, field, opens, closes, many, mark, back, ends, rowOf, keyOf, textAt, firstRow, rowsOf}
-use Rattle.layout.specs.Layout.{fits, lacks, isSeen, against, beneath, look, onward, scan, stepOf, Taken, Run, refusedAt, taken, withTaken, marked, behind, runOf}
+use Rattle.layout.specs.Layout.{fitsOr9, lacks, isSeen, against, beneath, look, onward, scan, stepOf, Taken, Run, refusedAt, taken, withTaken, marked, behind, runOf}
 use Rattle.layout.specs.declared.Place.{Place}
 use Rattle.layout.specs.declared.Step.{Step}
 use Rattle.layout.specs.declared.Look.{Look}
@@ -113,8 +113,8 @@ module _ (here : Place) (seen line : List ℕ) (deep : ℕ) (unmarked passed : B
   key-within : (key : List ℕ) → begins key line ≡ true → length key ≤ length line
   key-within key e = let l = ap length (begins-is key line e) in omega (arith, length-append key (drop (length key) line))
 
-  fits-within : (step : Step) → Within step → Within (fits here passed step)
-  unfolding fits
+  fits-within : (step : Step) → Within step → Within (fitsOr9 here passed step)
+  unfolding fitsOr9
   fits-within step h = of-both Within passed (λ e. omega arith) (λ e. h)
 
   against-bound : (row : ℕ) (rows : List Row) (r : Row) → Good (against here seen line row rows unmarked passed r)

@@ -33,8 +33,8 @@ abbrev pub takes : Place → ℕ → ℕ → ℕ → Step
 takes here row slot width = record { number = 0; slot = slot; width = width; place = record { row = row + 1; back = here .back } }
 
 -- it fits: with a mandatory row passed over that is 9
-unfoldable pub fits : Place → Bool → Step → Step
-fits here passed step = cond passed (wrong here 9) step
+unfoldable pub fitsOr9 : Place → Bool → Step → Step
+fitsOr9 here passed step = cond passed (wrong here 9) step
 
 -- ---- a line against one row: it is decided, or goes further with
 --   deep       the blocks that are being passed over
@@ -72,19 +72,19 @@ beneath here line deep unmarked passed ends = Further (deep - 1) unmarked passed
 -- a row of the block that the line stands in: `row` is its place in the table, `rows` are those behind it
 unfoldable pub against : Place → List ℕ → List ℕ → ℕ → List Row → Bool → Bool → Row → Look
 against here seen line row rows unmarked passed (field m s k) =
-    cond (begins k line) (Decided (fits here passed (takes here row s (length k)))) (Further 0 unmarked (passed || m))
+    cond (begins k line) (Decided (fitsOr9 here passed (takes here row s (length k)))) (Further 0 unmarked (passed || m))
 against here seen line row rows unmarked passed (opens m o) =
-    cond (same o line) (Decided (fits here passed (moves here (row + 1)))) (Further 1 unmarked (passed || m))
+    cond (same o line) (Decided (fitsOr9 here passed (moves here (row + 1)))) (Further 1 unmarked (passed || m))
 against here seen line row rows unmarked passed (closes c) =
-    Decided (cond (same c line) (fits here passed (moves here (row + 1))) (wrong here 8))
+    Decided (cond (same c line) (fitsOr9 here passed (moves here (row + 1))) (wrong here 8))
 against here seen line row rows unmarked passed (many n a o) =
-    cond (same o line && (a || lacks seen rows)) (Decided (fits here passed (enters row)))
+    cond (same o line && (a || lacks seen rows)) (Decided (fitsOr9 here passed (enters row)))
     (Further 1 unmarked (passed || (n && lacks seen rows)))
 against here seen line row rows unmarked passed (mark s k) =
-    cond (begins k line) (Decided (cond (isSeen seen s) (wrong here 8) (fits here passed (takes here row s (length k)))))
+    cond (begins k line) (Decided (cond (isSeen seen s) (wrong here 8) (fitsOr9 here passed (takes here row s (length k)))))
     (Further 1 true passed)
 against here seen line row rows unmarked passed (back c) =
-    Decided (cond (same c line) (fits here passed (moves here (here .back))) (wrong here 8))
+    Decided (cond (same c line) (fitsOr9 here passed (moves here (here .back))) (wrong here 8))
 against here seen line row rows unmarked passed ends = Decided (wrong here 8)
 
 unfoldable pub look : Place → List ℕ → List ℕ → ℕ → List Row → ℕ → Bool → Bool → Row → Look

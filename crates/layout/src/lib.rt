@@ -9,7 +9,7 @@ ghost use mathlib.Core.Bool.{true, cond, _&&_, _||_};
 ghost use mathlib.Core.List.{[]};
 ghost use Rattle.text.specs.Bytes.{begins, same};
 ghost use Rattle.layout.specs.Rows.{keyOf, textAt, firstRow, rowsOf, field, opens};
-ghost use Rattle.layout.specs.Layout.{wrong, moves, takes, fits, enters, isSeen, lacks, beneath, against, look, stepOf};
+ghost use Rattle.layout.specs.Layout.{wrong, moves, takes, fitsOr9, enters, isSeen, lacks, beneath, against, look, stepOf};
 
 // The numbers of document 01: the line fits no slot from here on, and a mandatory one was passed over.
 const NO_SLOT: u64 = 8;
@@ -124,7 +124,7 @@ fn refuse(here: Place, number: u64) -> Step
 // A line that fits a row: it is taken for a slot, of a text with `width` bytes, and the table goes on at `row`. With a
 // mandatory row passed over it is refused.
 fn fit(here: Place, passed: bool, slot: usize, width: usize, row: usize, back: usize) -> Look
-    ensures { λ r. ⌜ r ≡ Look.Decided (fits here passed (record { number = 0; slot = slot; width = width; place = record { row = row; back = back } })) ⌝ }
+    ensures { λ r. ⌜ r ≡ Look.Decided (fitsOr9 here passed (record { number = 0; slot = slot; width = width; place = record { row = row; back = back } })) ⌝ }
 {
     if passed {
         Look::Decided(refuse(here, PASSED_OVER))
@@ -192,7 +192,7 @@ fn look_opens(
 
 // A line against the last line of a block, behind which the table goes on at `next`.
 fn look_closes(next: usize, key: &[u8], line: &[u8], here: Place, passed: bool) -> Look
-    ensures { λ r. ⌜ r ≡ Look.Decided (cond (same (now (key .entry)) (now (line .entry))) (fits here passed (moves here next)) (wrong here 8)) ⌝ }
+    ensures { λ r. ⌜ r ≡ Look.Decided (cond (same (now (key .entry)) (now (line .entry))) (fitsOr9 here passed (moves here next)) (wrong here 8)) ⌝ }
 {
     if is_line(line, key) {
         fit(here, passed, 0, 0, next, here.back)
@@ -213,7 +213,7 @@ fn look_many(
     passed: bool,
 ) -> Look
     requires { ⌜ row + 1 < 2 ^ 64 ⌝ }
-    ensures { λ r. ⌜ r ≡ cond (same (now (key .entry)) (now (line .entry)) && may) (Look.Decided (fits here passed (enters row))) (Look.Further 1 unmarked (passed || must)) ⌝ }
+    ensures { λ r. ⌜ r ≡ cond (same (now (key .entry)) (now (line .entry)) && may) (Look.Decided (fitsOr9 here passed (enters row))) (Look.Further 1 unmarked (passed || must)) ⌝ }
 {
     if may {
         if is_line(line, key) {
@@ -237,7 +237,7 @@ fn look_mark(
     passed: bool,
 ) -> Look
     requires { ⌜ row + 1 < 2 ^ 64 ⌝ }
-    ensures { λ r. ⌜ r ≡ cond (begins (now (key .entry)) (now (line .entry))) (Look.Decided (cond again (wrong here 8) (fits here passed (takes here row slot (length (now (key .entry))))))) (Look.Further 1 true passed) ⌝ }
+    ensures { λ r. ⌜ r ≡ cond (begins (now (key .entry)) (now (line .entry))) (Look.Decided (cond again (wrong here 8) (fitsOr9 here passed (takes here row slot (length (now (key .entry))))))) (Look.Further 1 true passed) ⌝ }
 {
     if text::begins_with(line, key) {
         if again {

@@ -1,6 +1,6 @@
 pub mod Laws
 pub mod Lined
 pub mod Joins
-pub mod Turns
+pub mod Scans
 pub mod Cases
 pub mod Standing

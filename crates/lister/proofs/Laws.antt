@@ -10,7 +10,7 @@ use Rattle.pieces.specs.Pieces.{pieceOf}
 use Rattle.pieces.proofs.Laws.{piece-farther}
 use Rattle.batch.specs.Batch.{nextOf}
 use Rattle.batch.specs.declared.Answer.{Answer}
-use Rattle.batch.proofs.Turns.{next-piece}
+use Rattle.batch.proofs.Answers.{next-piece}
 
 pub farther : (batch : List ℕ) (position : ℕ) (a : Answer) → a ≡ nextOf batch position → position < length batch → (position < a .position) × (a .position ≤ length batch)
 farther batch position a e h =

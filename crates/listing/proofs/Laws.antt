@@ -2,7 +2,7 @@
 -- Assumes nothing.
 use Prim.Native.Nat.{ℕ, _+_, _-_, _≤_, _<_}
 use mathlib.Core.Path.{_≡_, refl, sym, ap, _∙_}
-use mathlib.Core.List.{List, [], _∷_, _++_}
+use mathlib.Core.List.{List, [], _∷_, _++_, flatten}
 use native.Mathlib.Omega.{arith}
 use lib.ListN.{length, take, drop, replicate, length-append, length-take, length-drop}
 use borrow.Author.Tests.{eq-eqb, ne-eqb}
@@ -17,12 +17,11 @@ use Rattle.amount.specs.Amounts.{trimmed, noughts}
 use Rattle.amount.proofs.Trims.{trimmed-drop, noughts-length}
 use Rattle.trade.specs.declared.Kind.{Kind}
 use Rattle.values.specs.Values.{kindWord}
-use Rattle.values.proofs.Turns.{contents-short, kind-four}
+use Rattle.values.proofs.Widths.{contents-short, kind-four}
 use Rattle.mt515.specs.declared.Reading.{Reading}
-use Rattle.fill.specs.Runs.{flat}
 use Rattle.fill.proofs.Runs.{Put, Run, two, measured, in-front, length-run, whole}
 use Rattle.listing.specs.Rows.{spaced, decimal, shown, told, untold, fieldsOf, rowOf}
-use Rattle.listing.specs.Walks.{fieldsIn, partsOf}
+use Rattle.listing.specs.Composed.{fieldsIn, partsOf}
 use Rattle.listing.specs.declared.Row.{Row}
 
 -- ---- a number
@@ -79,8 +78,8 @@ kind-is k w e = rw e (contents-of (kindWord k) (let h = kind-four k in omega ari
 -- ---- the seven fields in a line
 
 -- the parts of a row are its fields, spaced
-pub parts-are : (row : Row) → flat (partsOf row) ≡ spaced (fieldsIn row)
-unfolding flat partsOf fieldsIn spaced bytes
+pub parts-are : (row : Row) → flatten (partsOf row) ≡ spaced (fieldsIn row)
+unfolding flatten partsOf fieldsIn spaced bytes
 parts-are row = refl
 
 -- no text has more than twenty bytes

@@ -1,3 +1,3 @@
 pub mod Rows
-pub mod Walks
+pub mod Composed
 pub mod Cases

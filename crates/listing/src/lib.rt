@@ -14,7 +14,7 @@ ghost use Rattle.text.specs.Texts.{contents};
 ghost use Rattle.values.specs.Values.{kindWord};
 ghost use Rattle.fill.specs.Runs.{overRun, behindRun};
 ghost use Rattle.listing.specs.Rows.{spaced, heading, decimal, shown, fieldsOf, rowOf};
-ghost use Rattle.listing.specs.Walks.{fieldsIn, parted, partsOf};
+ghost use Rattle.listing.specs.Composed.{fieldsIn, parted, partsOf};
 
 // The seven fields of a row.
 struct Row {

@@ -41,7 +41,7 @@ use Rattle.values.specs.Values.{serviceWord, periodText, reasonText, narrative,
 use Rattle.values.specs.Writable.{periodForm, tests, inForm}
 use Rattle.values.proofs.Fields.{_⨾_}
 use Rattle.values.proofs.Narratives.{period-short, reason-short}
-use Rattle.values.proofs.Turns.{service-long, narrative-is}
+use Rattle.values.proofs.Widths.{service-long, narrative-is}
 use Rattle.values.proofs.Laws.{test, values-held}
 use Rattle.judge.specs.Judging.{judgeOf}
 use Rattle.judge.proofs.Laws.{judge-zero}

@@ -3,7 +3,7 @@
 use Prim.Native.Nat.{ℕ, _-_, _≤_}
 use mathlib.Core.Path.{_≡_, refl}
 use mathlib.Core.Bool.{true}
-use mathlib.Core.List.{List, _∷_, _++_}
+use mathlib.Core.List.{List, _∷_, _++_, flatten}
 use lib.ListN.{length, take, drop}
 use Rattle.text.proofs.Laws.{rest-of}
 use Rattle.stretches.specs.Stretches.{stretchOf}
@@ -13,7 +13,7 @@ use Rattle.sheets.specs.Trees.{tableOf}
 use Rattle.sheets.specs.Slots.{slotsOf}
 use Rattle.format.proofs.Tests.{every}
 use Rattle.format.proofs.Demands as Demands
-use Rattle.fill.specs.Runs.{overRun, flat}
+use Rattle.fill.specs.Runs.{overRun}
 use Rattle.fill.specs.Filling.{lent}
 use Rattle.fill.proofs.Runs.{Put, Run}
 use Rattle.writer.specs.Parts.{messageParts}
@@ -36,7 +36,7 @@ use Rattle.message.specs.Writing.{writingOf, writtenOver, writable}
 
 -- the values are held where all of them have room
 pub values-lent : (t : Trade) (buf text places : List ℕ) → text ≡ overRun buf 0 (values t) → places ≡ 0 ∷ ends buf 0 (values t)
-    → length (flat (values t)) ≤ length buf → (s : ℕ) → stretchOf text places (take (length places - 1) (drop 1 places)) s ≡ valueOf t s
+    → length (flatten (values t)) ≤ length buf → (s : ℕ) → stretchOf text places (take (length places - 1) (drop 1 places)) s ≡ valueOf t s
 unfolding valueOf
 values-lent t buf text places e f h s = rw (rest-of 1 (length places) places refl, e, f) (stretch-held (values t) buf h s)
 

@@ -6,7 +6,7 @@
 -- one comes back as a record that may be written (unpacked's specs/Back).
 use Prim.Native.Nat.{ℕ, zero, suc, _+_, _*_, _/_, _%_}
 use mathlib.Core.Bool.{cond}
-use mathlib.Core.List.{List, [], _∷_, _++_, map}
+use mathlib.Core.List.{List, [], _∷_, _++_, map, flatten}
 use lib.Dec.{leb}
 use Rattle.text.specs.declared.Text.{Text}
 use Rattle.calendar.specs.declared.Moment.{Moment}
@@ -58,12 +58,12 @@ textBytes t = atMost 255 (t .len) ∷ t .bytes
 -- ---- the numbers
 
 -- a date and time as YYYYMMDDHHMMSS; PREP that is absent is 0
-unfoldable pub momentNumber : Moment → ℕ
-momentNumber m = atMost 18446744073709551615 (m .date .0 * 1000000 + atMost 999999 (m .time .0))
+unfoldable pub momentPacked : Moment → ℕ
+momentPacked m = atMost 18446744073709551615 (m .date .0 * 1000000 + atMost 999999 (m .time .0))
 
 unfoldable pub numbers : Trade → List ℕ
 numbers t =
-    momentNumber (t .prep) ∷ momentNumber (t .trad) ∷ t .sett .0
+    momentPacked (t .prep) ∷ momentPacked (t .trad) ∷ t .sett .0
     ∷ t .price .0 .number ∷ t .price .0 .decimals
     ∷ t .par .0 .number ∷ t .par .0 .decimals ∷ []
 
@@ -74,10 +74,5 @@ numberBytes (suc width) n = n % 256 ∷ numberBytes width (n / 256)
 
 -- ---- all of them
 
--- one behind the other
-unfoldable pub inRow : List (List ℕ) → List ℕ
-inRow [] = []
-inRow (s ∷ ss) = s ++ inRow ss
-
 unfoldable pub packedOf : Trade → List ℕ
-packedOf t = codes t ++ (inRow (map textBytes (texts t)) ++ inRow (map (numberBytes 8) (numbers t)))
+packedOf t = codes t ++ (flatten (map textBytes (texts t)) ++ flatten (map (numberBytes 8) (numbers t)))

@@ -4,7 +4,7 @@ use calendar::Moment;
 use text::Text;
 use trade::Trade;
 ghost use mathlib.Core.Path.{_≡_};
-ghost use Rattle.packed.specs.Packed.{texts, momentNumber, numbers};
+ghost use Rattle.packed.specs.Packed.{texts, momentPacked, numbers};
 
 pub(crate) fn texts_of(trade: Trade) -> [Text; 15]
     ensures { λ r. ⌜ r ≡ texts trade ⌝ }
@@ -47,7 +47,7 @@ pub(crate) fn texts_of(trade: Trade) -> [Text; 15]
 
 // The digits of a date and time as one number.
 fn moment_number(moment: Moment) -> u64
-    ensures { λ r. ⌜ r ≡ momentNumber moment ⌝ }
+    ensures { λ r. ⌜ r ≡ momentPacked moment ⌝ }
 {
     let time = codes::at_most(999_999, moment.time.0);
     if 18_446_744_073_709 < moment.date.0 {

@@ -2,8 +2,8 @@
 use super::codes;
 use text::Text;
 ghost use mathlib.Core.Path.{_≡_};
-ghost use mathlib.Core.List.{map};
-ghost use Rattle.packed.specs.Packed.{textBytes, numberBytes, inRow};
+ghost use mathlib.Core.List.{map, flatten};
+ghost use Rattle.packed.specs.Packed.{textBytes, numberBytes};
 
 // The length of a text, and its bytes.
 fn text_bytes(text: Text) -> [u8; 21]
@@ -33,7 +33,7 @@ fn number_bytes(number: u64) -> [u8; 8]
 
 // The places of all texts, one behind the other.
 pub(crate) fn text_row(texts: [Text; 15]) -> [u8; 315]
-    ensures { λ r. ⌜ r ≡ inRow (map textBytes texts) ⌝ }
+    ensures { λ r. ⌜ r ≡ flatten (map textBytes texts) ⌝ }
 {
     let mut row = [0u8; 315];
     let mut i = 0;
@@ -46,7 +46,7 @@ pub(crate) fn text_row(texts: [Text; 15]) -> [u8; 315]
 
 // And of all numbers.
 pub(crate) fn number_row(numbers: [u64; 7]) -> [u8; 56]
-    ensures { λ r. ⌜ r ≡ inRow (map (numberBytes 8) numbers) ⌝ }
+    ensures { λ r. ⌜ r ≡ flatten (map (numberBytes 8) numbers) ⌝ }
 {
     let mut row = [0u8; 56];
     let mut i = 0;

@@ -13,7 +13,7 @@ use borrow.Author.Tests.{ltb-true, ltb-false}
 use Rattle.pieces.specs.declared.Turn.{Turn}
 use Rattle.pieces.specs.declared.Turn.the-variants.{Message, Done, Past}
 use Rattle.pieces.specs.Pieces.{pieceOf, pieces}
-use Rattle.pieces.specs.Turns.{behindOf, Takes, Gives, ReadsPieces, NoOther}
+use Rattle.pieces.specs.Calls.{behindOf, Takes, Gives, ReadsPieces, NoOther}
 use Rattle.pieces.proofs.Pieces.{pieces-step, no-pieces}
 use Rattle.pieces.proofs.Laws.{piece-farther, turn-message, turn-done}
 

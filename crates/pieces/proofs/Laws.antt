@@ -9,7 +9,7 @@ use lib.Seq.{take-append-seam}
 use borrow.Author.Tests.{lt-ltb, le-ltb, eq-eqb, ne-eqb}
 use Rattle.pieces.specs.declared.Turn.the-variants.{Message, Done, Past}
 use Rattle.pieces.specs.Pieces.{pieceOf}
-use Rattle.pieces.specs.Turns.{turnOf}
+use Rattle.pieces.specs.Calls.{turnOf}
 use Rattle.pieces.proofs.Pieces.{piece-some, piece-split}
 
 -- ---- a piece is a stretch of its batch

@@ -1,4 +1,4 @@
 pub mod Pieces
 pub mod Laws
-pub mod Turns
+pub mod Lines
 pub mod Cutting

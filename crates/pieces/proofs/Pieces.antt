@@ -4,7 +4,7 @@
 use Prim.Native.Nat.{ℕ, zero, suc, _≤_}
 use mathlib.Core.Path.{_≡_, refl, sym, ap, _∙_}
 use mathlib.Core.Bool.{Bool, true, false, not, cond, true≢false}
-use mathlib.Core.List.{List, [], _∷_, _++_, map, append-assoc, append-nil, append-cancel-left, nil≢cons, head-eq-of-cons-eq, tail-eq-of-cons-eq}
+use mathlib.Core.List.{List, [], _∷_, _++_, map, append-assoc, append-nil, append-cancel-left, nil≢cons, head-eq-of-cons-eq, tail-eq-of-cons-eq, flatten}
 use native.Mathlib.Nat.{not-suc-le-zero}
 use native.Mathlib.Omega.{arith}
 use lib.Dec.{eqb}
@@ -17,33 +17,33 @@ use Rattle.text.proofs.Laws.{and-left, and-right, same-refl}
 use Rattle.lines.specs.Lines.{inFront, bare, linesOf, ended, joined, linesPass, cutBehind, withoutEnding}
 use Rattle.lines.proofs.Laws.{plain, Closed, passed}
 use Rattle.lines.proofs.Joins.{lines-joined, Whole, ended-whole, some-bytes}
-use Rattle.pieces.specs.Pieces.{isDash, throughDash, pieceOf, piecesIn, pieces, together, cases, Answered}
+use Rattle.pieces.specs.Pieces.{isDash, throughDash, pieceOf, piecesIn, pieces, cases, Answered}
 
 -- ---- the pieces of a batch are all of it
 
 -- the lines are
-lines-together : (m : List ℕ) → together (cutBehind m) ≡ m
-unfolding together cutBehind inFront
+lines-together : (m : List ℕ) → flatten (cutBehind m) ≡ m
+unfolding flatten cutBehind inFront
 lines-together [] = refl
 lines-together (b ∷ s) = at (lines-together s) (eqb b 10)
   where
-    more : (ls : List (List ℕ)) → together (inFront b ls) ≡ b ∷ together ls
+    more : (ls : List (List ℕ)) → flatten (inFront b ls) ≡ b ∷ flatten ls
     more [] = refl
     more (l ∷ ls) = refl
 
-    at : together (cutBehind s) ≡ s → (t : Bool) → together (cond t ((b ∷ []) ∷ cutBehind s) (inFront b (cutBehind s))) ≡ b ∷ s
+    at : flatten (cutBehind s) ≡ s → (t : Bool) → flatten (cond t ((b ∷ []) ∷ cutBehind s) (inFront b (cutBehind s))) ≡ b ∷ s
     at ih true = ap (λ (x : List ℕ). b ∷ x) ih
     at ih false = more (cutBehind s) ∙ ap (λ (x : List ℕ). b ∷ x) ih
 
 -- a piece is what the lines begin with
-through-front : (ls : List (List ℕ)) → (rest : List ℕ) × (together ls ≡ throughDash ls ++ rest)
-unfolding together throughDash
+through-front : (ls : List (List ℕ)) → (rest : List ℕ) × (flatten ls ≡ throughDash ls ++ rest)
+unfolding flatten throughDash
 through-front [] = ([], refl)
 through-front (l ∷ ls) = at (through-front ls) (isDash l)
   where
-    at : ((rest : List ℕ) × (together ls ≡ throughDash ls ++ rest)) → (t : Bool)
-        → (rest : List ℕ) × (l ++ together ls ≡ (l ++ cond t [] (throughDash ls)) ++ rest)
-    at ih true = (together ls, rw (append-nil l))
+    at : ((rest : List ℕ) × (flatten ls ≡ throughDash ls ++ rest)) → (t : Bool)
+        → (rest : List ℕ) × (l ++ flatten ls ≡ (l ++ cond t [] (throughDash ls)) ++ rest)
+    at ih true = (flatten ls, rw (append-nil l))
     at ih false = (ih .0, ap (λ (x : List ℕ). l ++ x) (ih .1) ∙ sym (append-assoc l (throughDash ls) (ih .0)))
 
 pub piece-split : (m : List ℕ) → m ≡ pieceOf m ++ drop (length (pieceOf m)) m
@@ -97,8 +97,8 @@ pieces-step (b ∷ s) h =
     let rest : List ℕ = drop (length (pieceOf (b ∷ s))) (b ∷ s) in
     ap (λ (x : List (List ℕ)). pieceOf (b ∷ s) ∷ x) (enough (length s) (length rest) rest (rest-shorter b s) (omega arith))
 
-all-together : (k : ℕ) (m : List ℕ) → length m ≤ k → together (piecesIn k m) ≡ m
-unfolding piecesIn together
+all-together : (k : ℕ) (m : List ℕ) → length m ≤ k → flatten (piecesIn k m) ≡ m
+unfolding piecesIn flatten
 all-together zero [] h = refl
 all-together zero (b ∷ m) h = absurd (not-suc-le-zero h)
 all-together (suc k) [] h = refl
@@ -107,7 +107,7 @@ all-together (suc k) (b ∷ m) h =
     let p : List ℕ = pieceOf (b ∷ m) in
     ap (λ (x : List ℕ). p ++ x) (all-together k (drop (length p) (b ∷ m)) (omega arith)) ∙ sym (piece-split (b ∷ m))
 
-pub pieces-together : (m : List ℕ) → together (pieces m) ≡ m
+pub pieces-together : (m : List ℕ) → flatten (pieces m) ≡ m
 unfolding pieces
 pieces-together m = all-together (length m) m (omega arith)
 
@@ -146,8 +146,8 @@ cut-append (b ∷ c ∷ s) rest h = at (cut-append (c ∷ s) rest h) (eqb b 10)
     at ih true = ap (λ (x : List (List ℕ)). (b ∷ []) ∷ x) ih
     at ih false = ap (inFront b) ih ∙ front-append b ls (cutBehind rest) (cut-some c s)
 
-through-closed : (ls ks body : List (List ℕ)) → map withoutEnding ls ≡ body ++ (bytes "-" ∷ []) → plain body ≡ true → throughDash (ls ++ ks) ≡ together ls
-unfolding throughDash together isDash plain
+through-closed : (ls ks body : List (List ℕ)) → map withoutEnding ls ≡ body ++ (bytes "-" ∷ []) → plain body ≡ true → throughDash (ls ++ ks) ≡ flatten ls
+unfolding throughDash flatten isDash plain
 through-closed [] ks [] e h = absurd (nil≢cons e)
 through-closed [] ks (x ∷ body) e h = absurd (nil≢cons e)
 through-closed (l ∷ []) ks [] e h = rw (head-eq-of-cons-eq e, same-refl (bytes "-"))
@@ -184,17 +184,17 @@ unfoldable pub Messages : List (List ℕ) → Type 0
 Messages [] = Unit
 Messages (m ∷ ms) = Message m × Messages ms
 
-pub pieces-of : (ms : List (List ℕ)) → Messages ms → pieces (together ms) ≡ ms
-unfolding Messages together
+pub pieces-of : (ms : List (List ℕ)) → Messages ms → pieces (flatten ms) ≡ ms
+unfolding Messages flatten
 pieces-of [] w = no-pieces
 pieces-of (m ∷ ms) w =
-    let rest : List ℕ = together ms in
+    let rest : List ℕ = flatten ms in
     let some : 1 ≤ length (m ++ rest) = rw (length-append m rest) (let s = some-bytes m (w .0 .end) in omega arith) in
     pieces-step (m ++ rest) some
     ∙ rw (piece-message m rest (w .0), drop-append-seam m rest) (ap (λ (x : List (List ℕ)). m ∷ x) (pieces-of ms (w .1)))
 
 -- so lists of messages that make the same batch are the same
-pub same-batch : (ms ks : List (List ℕ)) → Messages ms → Messages ks → together ms ≡ together ks → ms ≡ ks
+pub same-batch : (ms ks : List (List ℕ)) → Messages ms → Messages ks → flatten ms ≡ flatten ks → ms ≡ ks
 same-batch ms ks w x e = sym (pieces-of ms w) ∙ ap pieces e ∙ pieces-of ks x
 
 -- ---- the same of lines that are joined
@@ -212,7 +212,7 @@ messages-joined [] w = tt
 messages-joined (ls ∷ lss) w = (message-joined ls (w .0), messages-joined lss (w .1))
 
 -- cutting finds the messages that were put in, and their lines
-pub pieces-joined : (lss : List (List (List ℕ))) → AllWhole lss → pieces (together (map joined lss)) ≡ map joined lss
+pub pieces-joined : (lss : List (List (List ℕ))) → AllWhole lss → pieces (flatten (map joined lss)) ≡ map joined lss
 pieces-joined lss w = pieces-of (map joined lss) (messages-joined lss w)
 
 lines-back : (lss : List (List (List ℕ))) → AllWhole lss → map linesOf (map joined lss) ≡ lss
@@ -220,7 +220,7 @@ unfolding AllWhole
 lines-back [] w = refl
 lines-back (ls ∷ lss) w = rw (lines-joined ls (w .0 .printing), lines-back lss (w .1))
 
-pub same-lines : (lss kss : List (List (List ℕ))) → AllWhole lss → AllWhole kss → together (map joined lss) ≡ together (map joined kss) → lss ≡ kss
+pub same-lines : (lss kss : List (List (List ℕ))) → AllWhole lss → AllWhole kss → flatten (map joined lss) ≡ flatten (map joined kss) → lss ≡ kss
 same-lines lss kss w x e =
     let same = same-batch (map joined lss) (map joined kss) (messages-joined lss w) (messages-joined kss x) e in
     sym (lines-back lss w) ∙ ap (map linesOf) same ∙ lines-back kss x

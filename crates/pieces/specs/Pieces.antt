@@ -34,12 +34,6 @@ piecesIn (suc most) (b ∷ m) = pieceOf (b ∷ m) ∷ piecesIn most (drop (lengt
 unfoldable pub pieces : List ℕ → List (List ℕ)
 pieces m = piecesIn (length m) m
 
--- ---- messages put into a batch, one behind the other
-
-unfoldable pub together : List (List ℕ) → List ℕ
-together [] = []
-together (m ∷ ms) = m ++ together ms
-
 -- ---- batches at their edges: the `-` line with each ending and with none, twice, and lines that are nearly so
 
 unfoldable pub cases : List (List ℕ × List (List ℕ))

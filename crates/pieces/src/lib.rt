@@ -1,6 +1,6 @@
 // The pieces of a batch, whichever message type its messages are of: where the piece at a position ends, and what stands there.
 //
-// What is right stands in specs/Pieces, and what calling again and again finds in specs/Turns.
+// What is right stands in specs/Pieces, and what calling again and again finds in specs/Calls.
 ghost use mathlib.Core.Path.{_≡_};
 ghost use Prim.Native.Nat.{_+_};
 ghost use lib.ListN.{length, drop};

@@ -15,7 +15,7 @@ use Rattle.text.proofs.Laws.{and-left, and-right, and-both, same-refl, same-eq,
 use Rattle.layout.specs.Layout.{Taken, Run, taken, withTaken}
 use Rattle.layout.proofs.Laws.{withAll, all-none, all-append}
 use Rattle.sheets.specs.Trees.{Field, Member, Tree, last, line, block, group, chain}
-use Rattle.sheets.specs.Sheets.{Entry, edge, held, lineOf, linesIn, come, has, lacking, Among, front, later, Laid, shut, given, absent, opened, passed, member, done, Sheet}
+use Rattle.sheets.specs.Sheets.{Entry, edge, item, lineOf, linesIn, come, has, lacking, Among, front, later, Laid, shut, given, absent, opened, passed, member, done, Sheet}
 use Rattle.sheets.specs.Taking.{Spot, within, first, over, go, fit, next, seek, laterField, tell, moveOf, following, walk, takenBy}
 use Rattle.sheets.proofs.Checks.{goodSlot, goodFields, goodMembers, goodTree, Fit, starts, whole, fitsLine, clash, avoids, noneOf, apartFields, laterApart, apartMembers, apart}
 use Rattle.sheets.proofs.Moves.{good-chain}
@@ -71,7 +71,7 @@ clear a (done {o = o} e l) h = clear a l (and-right (not (clash a (whole o))) _ 
 unfoldable pub takenOn : ℕ → List Entry → List Taken
 takenOn n [] = []
 takenOn n (edge o ∷ es) = takenOn (suc n) es
-takenOn n (held s k v ∷ es) = record { slot = s; line = n; value = v } ∷ takenOn (suc n) es
+takenOn n (item s k v ∷ es) = record { slot = s; line = n; value = v } ∷ takenOn (suc n) es
 
 -- the number of the line behind a sheet
 unfoldable pub lineBehind : ℕ → List Entry → ℕ
@@ -87,13 +87,13 @@ taken-append : (n : ℕ) (es ds : List Entry) → takenOn n (es ++ ds) ≡ taken
 unfolding takenOn lineBehind
 taken-append n [] ds = refl
 taken-append n (edge o ∷ es) ds = taken-append (suc n) es ds
-taken-append n (held s k v ∷ es) ds = ap (λ (l : List Taken). record { slot = s; line = n; value = v } ∷ l) (taken-append (suc n) es ds)
+taken-append n (item s k v ∷ es) ds = ap (λ (l : List Taken). record { slot = s; line = n; value = v } ∷ l) (taken-append (suc n) es ds)
 
 pub come-append : (slots : List ℕ) (es ds : List Entry) → come slots (es ++ ds) ≡ come (come slots es) ds
 unfolding come
 come-append slots [] ds = refl
 come-append slots (edge o ∷ es) ds = come-append slots es ds
-come-append slots (held s k v ∷ es) ds = come-append (s ∷ slots) es ds
+come-append slots (item s k v ∷ es) ds = come-append (s ∷ slots) es ds
 
 behind-append : (n : ℕ) (es ds : List Entry) → lineBehind n (es ++ ds) ≡ lineBehind (lineBehind n es) ds
 unfolding lineBehind
@@ -139,7 +139,7 @@ not-zero s g = ne-eqb s 0 (λ z. not-suc-le-zero (rw z at (leb-true 1 s (and-lef
 -- a field's line is taken
 takes-held : (slots : List ℕ) (n : ℕ) (spot to : Spot) (ts us vs : List Tree) (s : ℕ) (k v : List ℕ) (es : List Entry)
     → goodSlot s ≡ true → moveOf slots (k ++ v) spot ts ≡ go s (length k) to us → Takes (s ∷ slots) (suc n) to us vs es
-    → Takes slots n spot ts vs (held s k v ∷ es)
+    → Takes slots n spot ts vs (item s k v ∷ es)
 unfolding Takes linesIn lineOf walk takenOn come lineBehind following withAll
 takes-held slots n spot to ts us vs s k v es g e h more =
     rw (e, not-zero s g, drop-append-seam k v) (ap (withTaken (record { slot = s; line = n; value = v })) (h more))
@@ -241,7 +241,7 @@ takes-sheet {slots = slots} (member {n = n} {a = a} {o = o} {c = c} {ms = ms} {t
     let q = group n a o c ms t in
     let p = and-left (apartMembers c ms) (apart t) (and-right (avoids (whole o) t) _ h) in
     let w = good-among i (and-left (goodMembers ms) (goodTree t) g) in
-    takes-edge slots k (within q) (first n a o c ms t) ts ts ts o (held (m .slot) (m .key) v ∷ (es ++ ds))
+    takes-edge slots k (within q) (first n a o c ms t) ts ts ts o (item (m .slot) (m .key) v ∷ (es ++ ds))
     (rw (same-refl o, lacking-among slots i z, or-true a))
     (takes-held slots (suc k) (first n a o c ms t) (within (chain (m .inside) c)) ts (q ∷ ts) ts (m .slot) (m .key) v (es ++ ds) (w .0)
     (tell-among c slots v q ts i p z)

@@ -7,7 +7,7 @@ use lib.Dec.{leb, ltb}
 use Rattle.text.specs.Bytes.{begins, same}
 use Rattle.stretches.specs.Stretches.{slotCount}
 use Rattle.sheets.specs.Trees.{Field, Member, Tree, last, line, block, group, chain}
-use Rattle.sheets.specs.Sheets.{Entry, edge, held, has}
+use Rattle.sheets.specs.Sheets.{Entry, edge, item, has}
 use Rattle.sheets.specs.Filled.{some, anyField, anyIn}
 use Rattle.sheets.specs.Plain.{Group}
 unfoldable pub use Rattle.sheets.specs.Slots.{fieldSlots, ownSlots, memberSlots, slotsOf, firstSlots, mustSlots}
@@ -206,7 +206,7 @@ tellable (group n a o c ms t) =
 unfoldable pub full : List Entry → Bool
 full [] = true
 full (edge o ∷ es) = full es
-full (held i k v ∷ es) = some v && full es
+full (item i k v ∷ es) = some v && full es
 
 -- ---- values: what stands because it must has one
 

@@ -13,7 +13,7 @@ use Rattle.text.proofs.Bools.{of-both}
 use Rattle.text.proofs.Laws.{and-left, and-right, and-both, same-eq, begins-is}
 use Rattle.layout.specs.Layout.{Taken, Run, refusedAt, taken, withTaken}
 use Rattle.sheets.specs.Trees.{Field, Member, Tree, last, line, block, group, chain}
-use Rattle.sheets.specs.Sheets.{Entry, edge, held, lineOf, linesIn, come, has, lacking, Among, front, later, Laid, shut, given, absent, opened, passed, member, done, Sheet}
+use Rattle.sheets.specs.Sheets.{Entry, edge, item, lineOf, linesIn, come, has, lacking, Among, front, later, Laid, shut, given, absent, opened, passed, member, done, Sheet}
 use Rattle.sheets.specs.Taking.{Spot, within, first, over, Move, no, go, fit, next, seek, laterField, tell, moveOf, following, walk, takenBy}
 use Rattle.sheets.proofs.Checks.{goodSlot, goodFields, goodMembers, goodTree, freeFields, freeMembers, free}
 use Rattle.sheets.proofs.Moves.{goodSpot, goodTrees, GoodMove, good-move}
@@ -40,7 +40,7 @@ slotsAfter s slots = cond (eqb s 0) slots (s ∷ slots)
 -- an entry of a slot, whose text is so long
 Stands : ℕ → ℕ → Entry → Type 0
 Stands s w (edge o) = s ≡ 0
-Stands s w (held i k v) = (s ≡ i) × (w ≡ length k) × (eqb i 0 ≡ false)
+Stands s w (item i k v) = (s ≡ i) × (w ≡ length k) × (eqb i 0 ≡ false)
 
 module _ (slots l : List ℕ) where
   -- the line is an entry in front of any sheet of what is left behind it
@@ -84,7 +84,7 @@ module _ (slots l : List ℕ) where
 
   -- a field's line: its text, and its value
   valued : ℕ → List ℕ → Entry
-  valued s k = held s k (drop (length k) l)
+  valued s k = item s k (drop (length k) l)
 
   found-line : (f : Field) (t : Tree) (ts : List Tree) → begins (f .key) l ≡ true → goodSlot (f .slot) ≡ true
       → Found (LaidAll slots (line f t ∷ ts)) (go (f .slot) (length (f .key)) (within t) ts)
@@ -97,7 +97,7 @@ module _ (slots l : List ℕ) where
         valued (f .slot) (f .key),
         sym (begins-is (f .key) l e),
         (refl, refl, z),
-        (held (f .slot) (f .key) v ∷ ds, rest, ap (λ (k : List Entry). held (f .slot) (f .key) v ∷ k) q, given v i, r),
+        (item (f .slot) (f .key) v ∷ ds, rest, ap (λ (k : List Entry). item (f .slot) (f .key) v ∷ k) q, given v i, r),
       )
 
   -- the first line of a block
@@ -154,7 +154,7 @@ module _ (slots l : List ℕ) where
       λ es k.
       let (ds, rest, q, j, (ds', rest', q', j', r)) = rw z at k in
       let v = drop (length (m .key)) l in
-      let x = held (m .slot) (m .key) v in (
+      let x = item (m .slot) (m .key) v in (
         valued (m .slot) (m .key),
         sym (begins-is (m .key) l e),
         (refl, refl, z),
@@ -333,14 +333,14 @@ module _ (slots l : List ℕ) (n : ℕ) (spot : Spot) (ts : List Tree) (ls : Lis
       → ls ≡ linesIn es → tk ≡ takenOn (suc n) es → Cut slots n spot ts (l ∷ ls) tk
   unfolding Cut Stands linesIn takenOn lineOf
   cut-edge s w es (edge o) z e i h q r = (edge o ∷ es, (rw (e, q)), r, h)
-  cut-edge s w es (held j k v) z e i h q r = absurd (true≢false (sym z ∙ (rw (i .0) (i .2))))
+  cut-edge s w es (item j k v) z e i h q r = absurd (true≢false (sym z ∙ (rw (i .0) (i .2))))
 
   cut-held : (s w : ℕ) (us : List Taken) (es : List Entry) (e : Entry) → eqb s 0 ≡ false → lineOf e ≡ l → Stands s w e → LaidFrom slots spot ts (e ∷ es)
       → ls ≡ linesIn es → us ≡ takenOn (suc n) es → tk ≡ record { slot = s; line = n; value = drop w l } ∷ us → Cut slots n spot ts (l ∷ ls) tk
   unfolding Cut Stands linesIn takenOn lineOf
   cut-held s w us es (edge o) z e i h q r t = absurd (true≢false (rw i at z))
-  cut-held s w us es (held j k v) z e i h q r t =
-      (held j k v ∷ es, (rw (e, q)), t ∙ (rw (r, i .0, i .1, ← e, drop-append-seam k v)), h)
+  cut-held s w us es (item j k v) z e i h q r t =
+      (item j k v ∷ es, (rw (e, q)), t ∙ (rw (r, i .0, i .1, ← e, drop-append-seam k v)), h)
 
   cut-line : (move : Move) → Found slots l (LaidFrom slots spot ts) move
       → ((s w : ℕ) (spot' : Spot) (ts' : List Tree) (us : List Taken) → move ≡ go s w spot' ts'

@@ -10,7 +10,7 @@ use Rattle.text.proofs.Bools.{or-two, or-left, or-right, of-both}
 use Rattle.text.proofs.Laws.{and-left, and-right}
 use Rattle.layout.specs.Layout.{taken}
 use Rattle.sheets.specs.Trees.{Field, Member, Tree, last, line, block, group, chain}
-use Rattle.sheets.specs.Sheets.{Entry, edge, held, linesIn, come, has, lacking, Among, front, later, Laid, shut, given, absent, opened, passed, member, done, Sheet}
+use Rattle.sheets.specs.Sheets.{Entry, edge, item, linesIn, come, has, lacking, Among, front, later, Laid, shut, given, absent, opened, passed, member, done, Sheet}
 use Rattle.sheets.specs.Taking.{takenBy}
 use Rattle.sheets.specs.Filled.{some, valueIn, anyField, anyMember, anyIn, filledFields, filledMembers, filled}
 use Rattle.sheets.proofs.Checks.{goodTree, apart, withFields, withMembers, withTree, onceMembers, once, allMembers, wholeMembers, complete}
@@ -123,7 +123,7 @@ pub come-more : (es : List Entry) (slots : List ℕ) (s : ℕ) → has slots s �
 unfolding come has
 come-more [] slots s h = h
 come-more (edge o ∷ es) slots s h = come-more es slots s h
-come-more (held i k v ∷ es) slots s h = come-more es (i ∷ slots) s (or-two (eqb i s) _ h)
+come-more (item i k v ∷ es) slots s h = come-more es (i ∷ slots) s (or-two (eqb i s) _ h)
 
 pub has-front : (s : ℕ) (slots : List ℕ) → has (s ∷ slots) s ≡ true
 unfolding has
@@ -216,13 +216,13 @@ emits value t h k = laid-filled value t [] [] h k (λ s e. e)
 unfoldable pub Fits : (ℕ → List ℕ) → List Entry → Type 0
 Fits value [] = Unit
 Fits value (edge o ∷ es) = Fits value es
-Fits value (held i k v ∷ es) = (v ≡ value i) × Fits value es
+Fits value (item i k v ∷ es) = (v ≡ value i) × Fits value es
 
 fits-append : (value : ℕ → List ℕ) (es ds : List Entry) → Fits value es → Fits value ds → Fits value (es ++ ds)
 unfolding Fits
 fits-append value [] ds h k = k
 fits-append value (edge o ∷ es) ds h k = fits-append value es ds h k
-fits-append value (held i j v ∷ es) ds h k = (h .0, fits-append value es ds (h .1) k)
+fits-append value (item i j v ∷ es) ds h k = (h .0, fits-append value es ds (h .1) k)
 
 module _ (value : ℕ → List ℕ) where
   fits-fields : (fs : List Field) (c : List ℕ) → Fits value (filledFields value fs c)
@@ -251,14 +251,14 @@ module _ (value : ℕ → List ℕ) where
   unfolding Fits come valueIn has
   value-come [] slots s f h k = absurd (true≢false (sym k ∙ h))
   value-come (edge o ∷ es) slots s f h k = value-come es slots s f h k
-  value-come (held i j v ∷ es) slots s f h k =
+  value-come (item i j v ∷ es) slots s f h k =
       of-both (λ x. x ≡ value s) (eqb i s) (λ e. f .0 ∙ ap value (eqb-true i s e)) (λ e. value-come es (i ∷ slots) s (f .1) (rw e h) k)
 
   value-none : (es : List Entry) (slots : List ℕ) (s : ℕ) → has (come slots es) s ≡ false → valueIn es s ≡ []
   unfolding come valueIn
   value-none [] slots s k = refl
   value-none (edge o ∷ es) slots s k = value-none es slots s k
-  value-none (held i j v ∷ es) slots s k =
+  value-none (item i j v ∷ es) slots s k =
       of-both (λ x. x ≡ []) (eqb i s)
       (λ e. absurd (true≢false (sym (come-more es (i ∷ slots) s (rw (← (eqb-true i s e)) (has-front i slots))) ∙ k)))
       (λ e. value-none es (i ∷ slots) s k)

@@ -8,7 +8,7 @@ use Rattle.text.specs.Bytes.{begins, same}
 use Rattle.text.proofs.Bools.{or-none, or-left, or-right}
 use Rattle.text.proofs.Laws.{and-left, and-right}
 use Rattle.sheets.specs.Trees.{Tree, last, line, block, group}
-use Rattle.sheets.specs.Sheets.{Entry, edge, held, lineOf, linesIn, Laid, shut, given, absent, opened, passed, member, done}
+use Rattle.sheets.specs.Sheets.{Entry, edge, item, lineOf, linesIn, Laid, shut, given, absent, opened, passed, member, done}
 use Rattle.sheets.specs.Plain.{anyLine}
 use Rattle.sheets.proofs.Checks.{freeMembers, free}
 use Rattle.sheets.proofs.Picking.{key-misses, line-misses, laid-misses, among-free, chain-free}
@@ -39,7 +39,7 @@ module _ (z : List ℕ) where
   unfolding free lastLine linesIn lineOf anyLine
   laid-ends shut h e = ([], ap (λ (y : List ℕ). y ∷ []) e, refl)
   laid-ends (given {f = f} {es = es} v l) h e =
-      one-more (held (f .slot) (f .key) v) es (key-misses z (f .key) v (and-left _ _ h)) (laid-ends l (and-right (not (begins (f .key) z)) _ h) e)
+      one-more (item (f .slot) (f .key) v) es (key-misses z (f .key) v (and-left _ _ h)) (laid-ends l (and-right (not (begins (f .key) z)) _ h) e)
   laid-ends (absent {f = f} m l) h e = laid-ends l (and-right (not (begins (f .key) z)) _ h) e
   laid-ends (opened {o = o} {t = t} {es = es} {ds = ds} l r) h e =
       let k = and-right (not (same o z)) _ h in
@@ -48,7 +48,7 @@ module _ (z : List ℕ) where
   laid-ends (passed {o = o} {t = t} m r) h e = laid-ends r (and-right (free z false t) _ (and-right (not (same o z)) _ h)) e
   laid-ends (member {o = o} {c = c} {ms = ms} {m = m} {es = es} {ds = ds} v i w l r) h e =
       let g = among-free z c i (and-left (freeMembers z c ms) _ (and-right (not (same o z)) _ h)) in
-      one-more (edge o) (held (m .slot) (m .key) v ∷ (es ++ ds)) (line-misses z o (and-left _ _ h))
-      (one-more (held (m .slot) (m .key) v) (es ++ ds) (key-misses z (m .key) v (g .0))
+      one-more (edge o) (item (m .slot) (m .key) v ∷ (es ++ ds)) (line-misses z o (and-left _ _ h))
+      (one-more (item (m .slot) (m .key) v) (es ++ ds) (key-misses z (m .key) v (g .0))
       (all-more es ds (laid-misses z l (sym (chain-free z (m .inside) c) ∙ g .1)) (laid-ends r h e)))
   laid-ends (done {o = o} {c = c} {ms = ms} w l) h e = laid-ends l (and-right (freeMembers z c ms) _ (and-right (not (same o z)) _ h)) e

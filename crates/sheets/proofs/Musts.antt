@@ -8,7 +8,7 @@ use lib.Dec.{eqb}
 use borrow.Author.Tests.{eqb-true, not-false}
 use Rattle.text.proofs.Bools.{or-case, or-one, or-two, or-left, or-right}
 use Rattle.sheets.specs.Trees.{Field, Member, Tree, last, line, block, group}
-use Rattle.sheets.specs.Sheets.{Entry, edge, held, lineOf, linesIn, come, has, lacking, Laid, shut, given, absent, opened, passed, member, done, Sheet}
+use Rattle.sheets.specs.Sheets.{Entry, edge, item, lineOf, linesIn, come, has, lacking, Laid, shut, given, absent, opened, passed, member, done, Sheet}
 use Rattle.sheets.specs.Filled.{some, anyField, anyMember, anyIn, filledFields, filledMembers, filled}
 use Rattle.sheets.proofs.Checks.{firstSlots, mustSlots}
 use Rattle.sheets.proofs.Accepts.{come-append}
@@ -22,7 +22,7 @@ pub come-held : (es : List Entry) (slots : List ℕ) (s : ℕ) → has (come slo
 unfolding come has slotsHeld
 come-held [] slots s h = or-one (has slots s) _ h
 come-held (edge o ∷ es) slots s h = come-held es slots s h
-come-held (held i k v ∷ es) slots s h =
+come-held (item i k v ∷ es) slots s h =
     or-case (eqb i s || has slots s) (has (slotsHeld es) s) (come-held es (i ∷ slots) s h)
     (λ e. or-case (eqb i s) (has slots s) e
     (λ q. or-two (has slots s) _ (or-one (eqb i s) _ q))
@@ -103,7 +103,7 @@ module _ (g : List ℕ → List ℕ) (v w : ℕ → List ℕ) where
   alike-cond true es ds fs hs p q = p
   alike-cond false es ds fs hs p q = q
 
-  alike-held : (s : ℕ) (k : List ℕ) (es ds : List Entry) → g (k ++ v s) ≡ k ++ w s → Alike es ds → Alike (held s k (v s) ∷ es) (held s k (w s) ∷ ds)
+  alike-held : (s : ℕ) (k : List ℕ) (es ds : List Entry) → g (k ++ v s) ≡ k ++ w s → Alike es ds → Alike (item s k (v s) ∷ es) (item s k (w s) ∷ ds)
   unfolding Alike linesIn lineOf
   alike-held s k es ds e p = rw (e, p)
 
@@ -123,7 +123,7 @@ module _ (g : List ℕ → List ℕ) (v w : ℕ → List ℕ) where
       let x = filledFields v fs c in
       let y = filledFields w fs c in
       rw (h .0 .1)
-      (alike-cond (f .must || some (w (f .slot))) (held (f .slot) (f .key) (v (f .slot)) ∷ x) (held (f .slot) (f .key) (w (f .slot)) ∷ y) x y
+      (alike-cond (f .must || some (w (f .slot))) (item (f .slot) (f .key) (v (f .slot)) ∷ x) (item (f .slot) (f .key) (w (f .slot)) ∷ y) x y
       (alike-held (f .slot) (f .key) x y (h .0 .0) r) r)
 
   turned-members : (o c : List ℕ) (ms : List Member) → g o ≡ o → g c ≡ c → TurnedMembers ms → Alike (filledMembers v o c ms) (filledMembers w o c ms)
@@ -136,7 +136,7 @@ module _ (g : List ℕ → List ℕ) (v w : ℕ → List ℕ) where
       let p = filledFields v (m .inside) c ++ x in
       let q = filledFields w (m .inside) c ++ y in
       rw (h .0 .1)
-      (alike-cond (some (w (m .slot))) (edge o ∷ held (m .slot) (m .key) (v (m .slot)) ∷ p) (edge o ∷ held (m .slot) (m .key) (w (m .slot)) ∷ q) x y
+      (alike-cond (some (w (m .slot))) (edge o ∷ item (m .slot) (m .key) (v (m .slot)) ∷ p) (edge o ∷ item (m .slot) (m .key) (w (m .slot)) ∷ q) x y
       (alike-edge o _ _ e (alike-held (m .slot) (m .key) p q (h .0 .0) (alike-both _ _ x y (turned-fields (m .inside) c d (h .1 .0)) r)))
       r)
 
@@ -165,7 +165,7 @@ module _ (g : List ℕ → List ℕ) (v w : ℕ → List ℕ) where
       let x = filled v t in
       let y = filled w t in
       rw (h .0 .1)
-      (alike-cond (f .must || some (w (f .slot))) (held (f .slot) (f .key) (v (f .slot)) ∷ x) (held (f .slot) (f .key) (w (f .slot)) ∷ y) x y
+      (alike-cond (f .must || some (w (f .slot))) (item (f .slot) (f .key) (v (f .slot)) ∷ x) (item (f .slot) (f .key) (w (f .slot)) ∷ y) x y
       (alike-held (f .slot) (f .key) x y (h .0 .0) r) r)
   turned (block m o t u) h =
       let r = turned u (h .1 .1) in

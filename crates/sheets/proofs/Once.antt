@@ -10,7 +10,7 @@ use borrow.Author.Tests.{eqb-true, eqb-false, not-true, eq-eqb, ne-eqb}
 use Rattle.text.proofs.Bools.{is-false, or-case, or-one, or-two, or-none, or-left, or-right}
 use Rattle.text.proofs.Laws.{and-left, and-right}
 use Rattle.sheets.specs.Trees.{Field, Member, Tree, group, chain}
-use Rattle.sheets.specs.Sheets.{Entry, edge, held, has, Among, front, later, Laid, shut, given, absent, opened, passed, member, done}
+use Rattle.sheets.specs.Sheets.{Entry, edge, item, has, Among, front, later, Laid, shut, given, absent, opened, passed, member, done}
 use Rattle.sheets.specs.Filled.{valueIn}
 use Rattle.sheets.proofs.Emits.{has-front, come-more, Fits}
 use Rattle.sheets.proofs.Checks.{fieldSlots, ownSlots, memberSlots, slotsOf, disjoint, distinct, soleMembers, sole}
@@ -34,13 +34,13 @@ apart-lists (x ∷ xs) ys s d h =
 unfoldable pub slotsHeld : List Entry → List ℕ
 slotsHeld [] = []
 slotsHeld (edge o ∷ es) = slotsHeld es
-slotsHeld (held i k v ∷ es) = i ∷ slotsHeld es
+slotsHeld (item i k v ∷ es) = i ∷ slotsHeld es
 
 pub held-append : (es ds : List Entry) → slotsHeld (es ++ ds) ≡ slotsHeld es ++ slotsHeld ds
 unfolding slotsHeld
 held-append [] ds = refl
 held-append (edge o ∷ es) ds = held-append es ds
-held-append (held i k v ∷ es) ds = ap (λ (l : List ℕ). i ∷ l) (held-append es ds)
+held-append (item i k v ∷ es) ds = ap (λ (l : List ℕ). i ∷ l) (held-append es ds)
 
 pub has-held : (es ds : List Entry) (s : ℕ) → has (slotsHeld (es ++ ds)) s ≡ (has (slotsHeld es) s || has (slotsHeld ds) s)
 has-held es ds s = rw (held-append es ds) (has-append (slotsHeld es) (slotsHeld ds) s)
@@ -128,13 +128,13 @@ not-again m s h d i q w (done {ms = ms} {t = t} z l) = outside s l (apart-lists 
 unfoldable pub Once : List Entry → Type 0
 Once [] = Unit
 Once (edge o ∷ es) = Once es
-Once (held i k v ∷ es) = (has (slotsHeld es) i ≡ false) × Once es
+Once (item i k v ∷ es) = (has (slotsHeld es) i ≡ false) × Once es
 
 pub once-append : (es ds : List Entry) → Once es → Once ds → ((s : ℕ) → has (slotsHeld es) s ≡ true → has (slotsHeld ds) s ≡ false) → Once (es ++ ds)
 unfolding Once slotsHeld has
 once-append [] ds h k f = k
 once-append (edge o ∷ es) ds h k f = once-append es ds h k f
-once-append (held i j v ∷ es) ds h k f = (
+once-append (item i j v ∷ es) ds h k f = (
   rw (has-held es ds i) (or-none (has (slotsHeld es) i) _ (h .0) (f i (or-one _ _ (eq-eqb i i refl)))),
   once-append es ds (h .1) k (λ s e. f s (or-two (eqb i s) _ e)),
 )
@@ -181,11 +181,11 @@ pub own-values : (es : List Entry) → Once es → Fits (valueIn es) es
 unfolding Once Fits valueIn slotsHeld has
 own-values [] h = tt
 own-values (edge o ∷ es) h = own-values es h
-own-values (held i k v ∷ es) h = (rw (eq-eqb i i refl), more es (h .0) (own-values es (h .1)))
+own-values (item i k v ∷ es) h = (rw (eq-eqb i i refl), more es (h .0) (own-values es (h .1)))
   where
     more : (ds : List Entry) → has (slotsHeld ds) i ≡ false → Fits (valueIn es) ds → Fits (λ s. cond (eqb i s) v (valueIn es s)) ds
     more [] q f = tt
     more (edge o ∷ ds) q f = more ds q f
-    more (held j l w ∷ ds) q f =
+    more (item j l w ∷ ds) q f =
         let ne = ne-eqb i j (λ e. eqb-false j i (or-left (eqb j i) _ q) (sym e)) in
         (rw ne (f .0), more ds (or-right (eqb j i) _ q) (f .1))

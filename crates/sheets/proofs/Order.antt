@@ -11,7 +11,7 @@ use Rattle.text.specs.Bytes.{begins, same}
 use Rattle.text.proofs.Bools.{is-false, or-case, or-one, or-two, or-none, or-left, or-right}
 use Rattle.text.proofs.Laws.{and-left, and-right, same-refl, begins-append}
 use Rattle.sheets.specs.Trees.{Field, Member, Tree, group, chain}
-use Rattle.sheets.specs.Sheets.{Entry, edge, held, lineOf, linesIn, come, has, Among, front, later, Laid, shut, given, absent, member, done}
+use Rattle.sheets.specs.Sheets.{Entry, edge, item, lineOf, linesIn, come, has, Among, front, later, Laid, shut, given, absent, member, done}
 use Rattle.sheets.specs.Filled.{some, filledFields, filledMembers}
 use Rattle.sheets.specs.Plain.{ahead, through, firstBegins, blockWith, blocksWith, anyLine, past, arranged}
 use Rattle.sheets.proofs.Checks.{keysOf, clash, starts, whole, fitsLine, noneOf, apartFields, laterApart, apartMembers, freeMembers, free, fieldSlots, ownSlots, memberSlots, slotsOf, disjoint, distinct, soleMembers, closedMembers}
@@ -27,19 +27,19 @@ module _ (value : ℕ → List ℕ) where
   unfoldable pub Right : List Entry → Type 0
   Right [] = Unit
   Right (edge o ∷ es) = Right es
-  Right (held i k v ∷ es) = (v ≡ value i) × (some v ≡ true) × Right es
+  Right (item i k v ∷ es) = (v ≡ value i) × (some v ≡ true) × Right es
 
   pub right-left : (es ds : List Entry) → Right (es ++ ds) → Right es
   unfolding Right
   right-left [] ds h = tt
   right-left (edge o ∷ es) ds h = right-left es ds h
-  right-left (held i k v ∷ es) ds h = (h .0, h .1, right-left es ds (h .2))
+  right-left (item i k v ∷ es) ds h = (h .0, h .1, right-left es ds (h .2))
 
   pub right-right : (es ds : List Entry) → Right (es ++ ds) → Right ds
   unfolding Right
   right-right [] ds h = h
   right-right (edge o ∷ es) ds h = right-right es ds h
-  right-right (held i k v ∷ es) ds h = right-right es ds (h .2)
+  right-right (item i k v ∷ es) ds h = right-right es ds (h .2)
 
   -- a slot that does not come has none
   unfoldable pub Bare : List ℕ → List Entry → Type 0
@@ -75,7 +75,7 @@ pub data Units (o c : List ℕ) (ms : List Member) : List Entry → Type 0 where
   none : Units o c ms []
   unit : {slots : List ℕ} {m : Member} {es us : List Entry} (v : List ℕ) → Among m ms → Laid slots (chain (m .inside) c) es
       → ((s : ℕ) → has (ownSlots m) s ≡ true → has (slotsHeld us) s ≡ false) → Units o c ms us
-      → Units o c ms (edge o ∷ held (m .slot) (m .key) v ∷ (es ++ us))
+      → Units o c ms (edge o ∷ item (m .slot) (m .key) v ∷ (es ++ us))
 
 pub lines-both : (es ds : List Entry) → linesIn (es ++ ds) ≡ linesIn es ++ linesIn ds
 unfolding linesIn
@@ -92,7 +92,7 @@ split {slots = slots} {t = t} h d (member {o = o} {m = m} {es = es} {ds = ds} v 
     = λ s w. or-left (has (slotsHeld us) s) (has (slotsHeld rest) s)
     (sym (has-held us rest s) ∙ ap (λ (y : List Entry). has (slotsHeld y) s) (sym e)
     ∙ not-again m s h d i (come-more es (m .slot ∷ slots) (m .slot) (has-front (m .slot) slots)) w r) in
-    let x = held (m .slot) (m .key) v in (
+    let x = item (m .slot) (m .key) v in (
       edge o ∷ x ∷ (es ++ us),
       rest,
       ap (λ (y : List Entry). edge o ∷ x ∷ y) (ap (λ (y : List Entry). es ++ y) e ∙ sym (append-assoc es us rest)),
@@ -189,13 +189,13 @@ module _ (value : ℕ → List ℕ) (o c : List ℕ) (ms : List Member) (rest : 
     (gone : anyLine o rest ≡ false) where
   -- one of them, as it is filled in
   oneOf : Member → List Entry
-  oneOf m = cond (some (value (m .slot))) (edge o ∷ held (m .slot) (m .key) (value (m .slot)) ∷ filledFields value (m .inside) c) []
+  oneOf m = cond (some (value (m .slot))) (edge o ∷ item (m .slot) (m .key) (value (m .slot)) ∷ filledFields value (m .inside) c) []
 
   -- the block that came is the block that is filled in
   same-block : {slots : List ℕ} {es : List Entry} (us : List Entry) (m : Member) (v : List ℕ) → Among m ms → Laid slots (chain (m .inside) c) es
       → ((s : ℕ) → has (ownSlots m) s ≡ true → has (slotsHeld us) s ≡ false)
-      → Right value (edge o ∷ held (m .slot) (m .key) v ∷ (es ++ us)) → Bare value (ownSlots m) (edge o ∷ held (m .slot) (m .key) v ∷ (es ++ us))
-      → blockWith o c (m .key) (linesIn (edge o ∷ held (m .slot) (m .key) v ∷ (es ++ us)) ++ rest) ≡ linesIn (oneOf m)
+      → Right value (edge o ∷ item (m .slot) (m .key) v ∷ (es ++ us)) → Bare value (ownSlots m) (edge o ∷ item (m .slot) (m .key) v ∷ (es ++ us))
+      → blockWith o c (m .key) (linesIn (edge o ∷ item (m .slot) (m .key) v ∷ (es ++ us)) ++ rest) ≡ linesIn (oneOf m)
   unfolding Right Bare slotsHeld has ownSlots distinct linesIn lineOf blockWith firstBegins through oneOf
   same-block {es = es} us m v i l f r b =
       let (ls, e, k) = chain-end (m .inside) c l (among-closed c i cl .1) in
@@ -216,7 +216,7 @@ module _ (value : ℕ → List ℕ) (o c : List ℕ) (ms : List Member) (rest : 
   -- and a block before it is passed over
   other-block : {slots : List ℕ} {es : List Entry} (us : List Entry) (m k : Member) (v : List ℕ) → Among k ms → Laid slots (chain (k .inside) c) es
       → begins (m .key) (k .key ++ v) ≡ false
-      → blockWith o c (m .key) (linesIn (edge o ∷ held (k .slot) (k .key) v ∷ (es ++ us)) ++ rest) ≡ blockWith o c (m .key) (linesIn us ++ rest)
+      → blockWith o c (m .key) (linesIn (edge o ∷ item (k .slot) (k .key) v ∷ (es ++ us)) ++ rest) ≡ blockWith o c (m .key) (linesIn us ++ rest)
   unfolding linesIn lineOf blockWith firstBegins
   other-block {es = es} us m k v i l h =
       let f = among-free o c i fr in
@@ -236,7 +236,7 @@ module _ (value : ℕ → List ℕ) (o c : List ℕ) (ms : List Member) (rest : 
       (keys-apart c ap' i j)
     where
       all : List Entry
-      all = edge o ∷ held (k .slot) (k .key) v ∷ (es ++ us)
+      all = edge o ∷ item (k .slot) (k .key) v ∷ (es ++ us)
 
       same-one : m ≡ k → blockWith o c (m .key) (linesIn all ++ rest) ≡ linesIn (oneOf m)
       same-one e =
@@ -265,7 +265,7 @@ module _ (value : ℕ → List ℕ) (o c : List ℕ) (ms : List Member) (rest : 
       (on (some (value (m .slot))))
     where
       fields : List Entry
-      fields = edge o ∷ held (m .slot) (m .key) (value (m .slot)) ∷ filledFields value (m .inside) c
+      fields = edge o ∷ item (m .slot) (m .key) (value (m .slot)) ∷ filledFields value (m .inside) c
 
       on : (t : Bool) → linesIn (cond t fields []) ++ linesIn (filledMembers value o c ks) ≡ linesIn (cond t (fields ++ filledMembers value o c ks) (filledMembers value o c ks))
       on true = sym (lines-both fields (filledMembers value o c ks))

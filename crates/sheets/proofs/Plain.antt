@@ -10,7 +10,7 @@ use Rattle.text.specs.Bytes.{begins, same}
 use Rattle.text.proofs.Bools.{is-false, or-case, or-one, or-two, or-none, or-left, or-right}
 use Rattle.text.proofs.Laws.{and-left, and-right}
 use Rattle.sheets.specs.Trees.{Field, Member, Tree, last, line, block, group}
-use Rattle.sheets.specs.Sheets.{Entry, edge, held, lineOf, linesIn, has, Laid, shut, given, absent, opened, passed, member, done, Sheet}
+use Rattle.sheets.specs.Sheets.{Entry, edge, item, lineOf, linesIn, has, Laid, shut, given, absent, opened, passed, member, done, Sheet}
 use Rattle.sheets.specs.Filled.{some, valueIn, anyField, anyMember, anyIn, filledMembers, filled}
 use Rattle.sheets.specs.Plain.{Group, anyLine, arranged, inOrder}
 use Rattle.sheets.proofs.Checks.{keysOf, groupsOf, apartMembers, freeMembers, free, fieldSlots, ownSlots, memberSlots, slotsOf, disjoint, soleMembers, sole, allFree, closedMembers, heavy, tellable, full}
@@ -172,7 +172,7 @@ module _ (value : ℕ → List ℕ) where
       let p = allFree (groupsOf t) (λ x. not (begins (f .key) x)) in
       let bare : Bare value (slotsOf t) es =
       λ s i h. b s (or-two (eqb (f .slot) s) _ i) (or-none (eqb (f .slot) s) _ (other t f s (not-true _ (and-left k _ q)) i) h) in
-      ordered-line t (line f t) (held (f .slot) (f .key) v) es (filled value t) refl
+      ordered-line t (line f t) (item (f .slot) (f .key) v) es (filled value t) refl
       (rw (or-two (f .must) (some (value (f .slot))) (rw (r .0) at (r .1)), ← (r .0))) refl
       (missing-all (groupsOf t) _ _ (and-left p _ w) (λ x h. one-line x (f .key ++ v) (key-misses x (f .key) v h)))
       (ordered t l (and-right p _ w) (and-right k _ q) (r .2) bare)
@@ -240,13 +240,13 @@ pub value-absent : (es : List Entry) (s : ℕ) → has (slotsHeld es) s ≡ fals
 unfolding valueIn slotsHeld has
 value-absent [] s h = refl
 value-absent (edge o ∷ es) s h = value-absent es s h
-value-absent (held i k v ∷ es) s h = rw (or-left (eqb i s) _ h) (value-absent es s (or-right (eqb i s) _ h))
+value-absent (item i k v ∷ es) s h = rw (or-left (eqb i s) _ h) (value-absent es s (or-right (eqb i s) _ h))
 
 right-of : (value : ℕ → List ℕ) (es : List Entry) → Fits value es → full es ≡ true → Right value es
 unfolding Fits Right full
 right-of value [] f h = tt
 right-of value (edge o ∷ es) f h = right-of value es f h
-right-of value (held i k v ∷ es) f h = (f .0, and-left (some v) _ h, right-of value es (f .1) (and-right (some v) _ h))
+right-of value (item i k v ∷ es) f h = (f .0, and-left (some v) _ h, right-of value es (f .1) (and-right (some v) _ h))
 
 missing-nil : (gs : List Group) → Missing gs []
 unfolding Missing anyLine

@@ -13,7 +13,7 @@ use borrow.Author.Tests.{leb-true, ltb-true, ne-eqb, eqb-true, eqb-false}
 use Rattle.text.specs.Bytes.{begins, same}
 use Rattle.text.proofs.Laws.{and-left, and-right}
 use Rattle.layout.specs.Rows.{Row, field, opens, closes, many, mark, back, ends}
-use Rattle.layout.specs.Layout.{wrong, moves, fits, isSeen, lacks, beneath, against, look, onward, scan, stepOf, withTaken, marked, behind, runOf, layoutOf}
+use Rattle.layout.specs.Layout.{wrong, moves, fitsOr9, isSeen, lacks, beneath, against, look, onward, scan, stepOf, withTaken, marked, behind, runOf, layoutOf}
 use Rattle.layout.specs.declared.Place.{Place}
 use Rattle.layout.specs.declared.Step.{Step}
 use Rattle.layout.specs.declared.Look.the-variants.{Decided, Further}
@@ -170,8 +170,8 @@ module _ (table : List Row) (here : Place) (seen slots l : List ℕ) (told : Tol
       (s .0, s .1, q ∙ (r .2 ∙ s .2))
 
   -- a line that fits, unless a mandatory row was passed over
-  does-fit : (p : Bool) {step : Step} {move : Move} → Does table step move → Does table (fits here p step) (fit p move)
-  unfolding fits fit
+  does-fit : (p : Bool) {step : Step} {move : Move} → Does table step move → Does table (fitsOr9 here p step) (fit p move)
+  unfolding fitsOr9 fit
   does-fit p h = does-cond table p (refuses {k = 9} refl (omega arith)) h
 
   does-8 : Does table (wrong here 8) (no 8)
@@ -235,7 +235,7 @@ module _ (table : List Row) (here : Place) (seen slots l : List ℕ) (told : Tol
   does-first : (ms : List Member) (c : List ℕ) (rows : List Row) (t : Tree) (ts : List Tree) (row : ℕ) (u : Bool) → goodMembers ms ≡ true
       → drop row table ≡ memberRows c ms rows → drop (here .back) table ≡ rowsIn t (rowsAround ts)
       → Does table (from row (memberRows c ms rows) 0 u false) (tell slots l c t ts ms)
-  unfolding memberRows scan look against beneath tell onward goodMembers fits
+  unfolding memberRows scan look against beneath tell onward goodMembers fitsOr9
   does-first [] c rows t ts row u g e b = does-8
   does-first (m ∷ ms) c rows t ts row u g e b =
       let e' = next-row table row _ _ e in

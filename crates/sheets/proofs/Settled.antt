@@ -11,7 +11,7 @@ use borrow.Author.Tests.{eqb-true, not-true}
 use Rattle.text.proofs.Laws.{and-left, and-right, and-both}
 use Rattle.sheets.specs.Trees.{Field, Member, Tree, last, line, block, group, chain}
 use Rattle.sheets.specs.Slots.{fieldSlots, ownSlots, memberSlots, slotsOf, firstSlots, mustSlots}
-use Rattle.sheets.specs.Sheets.{Entry, held, come, has, Among, front, later, Laid, given, absent, opened, passed, Sheet}
+use Rattle.sheets.specs.Sheets.{Entry, item, come, has, Among, front, later, Laid, given, absent, opened, passed, Sheet}
 use Rattle.sheets.specs.Filled.{some, anyField, anyIn}
 use Rattle.text.proofs.Bools.{is-false, or-case, or-one, or-two, or-none, or-left}
 use Rattle.sheets.proofs.Checks.{disjoint, distinct, soleMembers, sole, allMembers, wholeMembers, complete, solidFields, solidMembers, solid}
@@ -32,13 +32,13 @@ module _ (value : ℕ → List ℕ) where
 
   -- ---- the slots of a part of a sheet
 
-  tells-behind : (slots : List ℕ) (i : ℕ) (k v : List ℕ) (es : List Entry) → has slots i ≡ false → Tells (i ∷ slots) (held i k v ∷ es) → Tells slots es
+  tells-behind : (slots : List ℕ) (i : ℕ) (k v : List ℕ) (es : List Entry) → has slots i ≡ false → Tells (i ∷ slots) (item i k v ∷ es) → Tells slots es
   unfolding Tells slotsHeld has
   tells-behind slots i k v es n h s e =
       let other : eqb i s ≡ false = is-false (eqb i s) (λ q. true≢false (sym e ∙ rw (← (eqb-true i s q)) n)) in
       h s (or-two (eqb i s) _ e) ∙ rw other
 
-  tells-first : (slots : List ℕ) (i : ℕ) (k v : List ℕ) (es : List Entry) → Tells (i ∷ slots) (held i k v ∷ es) → some (value i) ≡ true
+  tells-first : (slots : List ℕ) (i : ℕ) (k v : List ℕ) (es : List Entry) → Tells (i ∷ slots) (item i k v ∷ es) → some (value i) ≡ true
   unfolding Tells slotsHeld
   tells-first slots i k v es h = h i (has-front i slots) ∙ has-front i (slotsHeld es)
 
@@ -60,7 +60,7 @@ module _ (value : ℕ → List ℕ) where
   tells-alone xs es us n h s e = h s e ∙ has-held es us s ∙ rw (n s e) (right-false (has (slotsHeld es) s))
 
   tells-past : (m k : Member) (v : List ℕ) (es us : List Entry) (c : List ℕ) {slots : List ℕ} → Laid slots (chain (k .inside) c) es → Disjoint m k
-      → Tells (ownSlots m) (held (k .slot) (k .key) v ∷ (es ++ us)) → Tells (ownSlots m) us
+      → Tells (ownSlots m) (item (k .slot) (k .key) v ∷ (es ++ us)) → Tells (ownSlots m) us
   unfolding Tells slotsHeld has ownSlots
   tells-past m k v es us c l d h s e =
       let x = d s e in
@@ -100,7 +100,7 @@ module _ (value : ℕ → List ℕ) where
 
   -- one that came
   settled-here : {slots : List ℕ} {es : List Entry} (m : Member) (c v : List ℕ) (us : List Entry) → distinct (ownSlots m) ≡ true → Laid slots (chain (m .inside) c) es
-      → ((s : ℕ) → has (ownSlots m) s ≡ true → has (slotsHeld us) s ≡ false) → Tells (ownSlots m) (held (m .slot) (m .key) v ∷ (es ++ us)) → Settled m
+      → ((s : ℕ) → has (ownSlots m) s ≡ true → has (slotsHeld us) s ≡ false) → Tells (ownSlots m) (item (m .slot) (m .key) v ∷ (es ++ us)) → Settled m
   unfolding ownSlots distinct has
   settled-here {es = es} m c v us q l f h =
       let d = not (has (fieldSlots (m .inside)) (m .slot)) in
@@ -114,7 +114,7 @@ module _ (value : ℕ → List ℕ) where
   member-settles m q i none h = settled-none m [] (λ s e. refl) h
   member-settles {c = c} m q i (unit {m = k} {es = es} {us = us} v j l f u) h =
       ⊎-elim
-      (λ e. subst Settled (sym e) (settled-here k c v us (own-distinct j q) l f (subst (λ (x : Member). Tells (ownSlots x) (held (k .slot) (k .key) v ∷ (es ++ us))) e h)))
+      (λ e. subst Settled (sym e) (settled-here k c v us (own-distinct j q) l f (subst (λ (x : Member). Tells (ownSlots x) (item (k .slot) (k .key) v ∷ (es ++ us))) e h)))
       (λ d. member-settles m q i u (tells-past m k v es us c l d h))
       (one-or-apart q i j)
 

@@ -7,7 +7,7 @@ use mathlib.Core.List.{List, [], _∷_, _++_}
 use Rattle.text.proofs.Bools.{of-both}
 use Rattle.text.proofs.Laws.{and-left, and-right, and-both}
 use Rattle.sheets.specs.Trees.{Field, Member, Tree, last, line, block, group}
-use Rattle.sheets.specs.Sheets.{Entry, edge, held}
+use Rattle.sheets.specs.Sheets.{Entry, edge, item}
 use Rattle.sheets.specs.Filled.{some, anyIn, filledFields, filledMembers, filled}
 use Rattle.sheets.proofs.Checks.{full, solidFields, solidMembers, solid}
 
@@ -15,7 +15,7 @@ full-append : (es ds : List Entry) → full es ≡ true → full ds ≡ true →
 unfolding full
 full-append [] ds h k = k
 full-append (edge o ∷ es) ds h k = full-append es ds h k
-full-append (held i j v ∷ es) ds h k = and-both {a = some v} (and-left (some v) _ h) (full-append es ds (and-right (some v) _ h) k)
+full-append (item i j v ∷ es) ds h k = and-both {a = some v} (and-left (some v) _ h) (full-append es ds (and-right (some v) _ h) k)
 
 -- what stands has a value
 stands-some : (m b : Bool) → (not m || b) ≡ true → (m || b) ≡ true → b ≡ true

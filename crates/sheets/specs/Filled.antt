@@ -6,7 +6,7 @@ use mathlib.Core.Bool.{Bool, true, false, _||_, cond}
 use mathlib.Core.List.{List, [], _∷_, _++_}
 use lib.Dec.{eqb}
 use Rattle.sheets.specs.Trees.{Field, Member, Tree, last, line, block, group}
-use Rattle.sheets.specs.Sheets.{Entry, edge, held}
+use Rattle.sheets.specs.Sheets.{Entry, edge, item}
 
 unfoldable pub some : List ℕ → Bool
 some [] = false
@@ -16,7 +16,7 @@ some (b ∷ v) = true
 unfoldable pub valueIn : List Entry → ℕ → List ℕ
 valueIn [] s = []
 valueIn (edge o ∷ es) s = valueIn es s
-valueIn (held i k v ∷ es) s = cond (eqb i s) v (valueIn es s)
+valueIn (item i k v ∷ es) s = cond (eqb i s) v (valueIn es s)
 
 unfoldable pub anyField : (ℕ → List ℕ) → List Field → Bool
 anyField value [] = false
@@ -37,19 +37,19 @@ unfoldable pub filledFields : (ℕ → List ℕ) → List Field → List ℕ →
 filledFields value [] c = edge c ∷ []
 filledFields value (f ∷ fs) c =
     let rest = filledFields value fs c in
-    cond (f .must || some (value (f .slot))) (held (f .slot) (f .key) (value (f .slot)) ∷ rest) rest
+    cond (f .must || some (value (f .slot))) (item (f .slot) (f .key) (value (f .slot)) ∷ rest) rest
 
 unfoldable pub filledMembers : (ℕ → List ℕ) → List ℕ → List ℕ → List Member → List Entry
 filledMembers value o c [] = []
 filledMembers value o c (m ∷ ms) =
     let rest = filledMembers value o c ms in
-    cond (some (value (m .slot))) (edge o ∷ held (m .slot) (m .key) (value (m .slot)) ∷ (filledFields value (m .inside) c ++ rest)) rest
+    cond (some (value (m .slot))) (edge o ∷ item (m .slot) (m .key) (value (m .slot)) ∷ (filledFields value (m .inside) c ++ rest)) rest
 
 unfoldable pub filled : (ℕ → List ℕ) → Tree → List Entry
 filled value (last c) = edge c ∷ []
 filled value (line f t) =
     let rest = filled value t in
-    cond (f .must || some (value (f .slot))) (held (f .slot) (f .key) (value (f .slot)) ∷ rest) rest
+    cond (f .must || some (value (f .slot))) (item (f .slot) (f .key) (value (f .slot)) ∷ rest) rest
 filled value (block m o t u) =
     let rest = filled value u in
     cond (m || anyIn value t) (edge o ∷ (filled value t ++ rest)) rest

@@ -10,11 +10,11 @@ use Rattle.sheets.specs.Trees.{Field, Member, Tree, last, line, block, g
 -- a line of a sheet: the first or last line of a block; or a field's, with its slot, the text that it begins with, and its value
 pub data Entry : Type 0 where
   edge : List ℕ → Entry
-  held : ℕ → List ℕ → List ℕ → Entry
+  item : ℕ → List ℕ → List ℕ → Entry
 
 unfoldable pub lineOf : Entry → List ℕ
 lineOf (edge o) = o
-lineOf (held s k v) = k ++ v
+lineOf (item s k v) = k ++ v
 
 -- the lines of a sheet
 unfoldable pub linesIn : List Entry → List (List ℕ)
@@ -26,7 +26,7 @@ linesIn es = map lineOf es
 unfoldable pub come : List ℕ → List Entry → List ℕ
 come slots [] = slots
 come slots (edge o ∷ es) = come slots es
-come slots (held s k v ∷ es) = come (s ∷ slots) es
+come slots (item s k v ∷ es) = come (s ∷ slots) es
 
 unfoldable pub has : List ℕ → ℕ → Bool
 has [] s = false
@@ -54,7 +54,7 @@ pub data Laid : List ℕ → Tree → List Entry → Type 0 where
   shut : {slots : List ℕ} {c : List ℕ} → Laid slots (last c) (edge c ∷ [])
   given : {slots : List ℕ} {f : Field} {t : Tree} {es : List Entry} (v : List ℕ)
       → Laid (f .slot ∷ slots) t es
-      → Laid slots (line f t) (held (f .slot) (f .key) v ∷ es)
+      → Laid slots (line f t) (item (f .slot) (f .key) v ∷ es)
   absent : {slots : List ℕ} {f : Field} {t : Tree} {es : List Entry}
       → f .must ≡ false → Laid slots t es
       → Laid slots (line f t) es
@@ -67,7 +67,7 @@ pub data Laid : List ℕ → Tree → List Entry → Type 0 where
   member : {slots : List ℕ} {n a : Bool} {o c : List ℕ} {ms : List Member} {t : Tree} {m : Member} {es ds : List Entry} (v : List ℕ)
       → Among m ms → has slots (m .slot) ≡ false
       → Laid (m .slot ∷ slots) (chain (m .inside) c) es → Laid (come (m .slot ∷ slots) es) (group n a o c ms t) ds
-      → Laid slots (group n a o c ms t) (edge o ∷ held (m .slot) (m .key) v ∷ (es ++ ds))
+      → Laid slots (group n a o c ms t) (edge o ∷ item (m .slot) (m .key) v ∷ (es ++ ds))
   done : {slots : List ℕ} {n a : Bool} {o c : List ℕ} {ms : List Member} {t : Tree} {es : List Entry}
       → (n ≡ true → lacking slots ms ≡ false) → Laid slots t es
       → Laid slots (group n a o c ms t) es

@@ -1,4 +1,4 @@
 pub mod Bools
 pub mod Laws
 pub mod Printed
-pub mod Turns
+pub mod Scans

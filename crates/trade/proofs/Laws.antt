@@ -8,7 +8,7 @@ use lib.ListN.{length, getD, List·getD-eq-default}
 use Rattle.text.specs.Bytes.{bytes, begins, same, before}
 use Rattle.text.specs.Texts.{textOf}
 use Rattle.text.specs.Classes.{allIn}
-use Rattle.digits.specs.Numerals.{fixedOf}
+use Rattle.digits.specs.Numerals.{wideNumber}
 use Rattle.amount.specs.Amounts.{amountRead, isAmount, whole}
 use Rattle.calendar.specs.Dates.{dateRead, dateFrom, momentRead, momentFrom}
 use Rattle.forms.specs.Forms.{wordAt}
@@ -22,5 +22,5 @@ first-else first others zero h = refl
 first-else first others (suc n) h = sym (List·getD-eq-default others first (le-of-suc-le-suc (h (zero-lt-suc n))))
 
 pub blank-is : tradeOf (λ slot. []) ≡ blankTrade
-unfolding bytes begins same before textOf allIn fixedOf amountRead isAmount whole dateRead dateFrom momentRead momentFrom wordAt serviceOf serviceIn periodOf hasPeriod reasonIn hasReason behindPeriod kindIn sideIn partyOf tradeOf nobody never blankTrade
+unfolding bytes begins same before textOf allIn wideNumber amountRead isAmount whole dateRead dateFrom momentRead momentFrom wordAt serviceOf serviceIn periodOf hasPeriod reasonIn hasReason behindPeriod kindIn sideIn partyOf tradeOf nobody never blankTrade
 blank-is = refl

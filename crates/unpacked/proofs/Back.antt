@@ -3,7 +3,7 @@
 use Prim.Native.Nat.{ℕ, zero, suc, _+_, _*_, _/_, _%_, _^_, _≤_, _<_}
 use mathlib.Core.Path.{_≡_, refl, sym, ap, _∙_}
 use mathlib.Core.Bool.{Bool, true, false, _&&_, _||_, cond, true≢false}
-use mathlib.Core.List.{List, [], _∷_, _++_, map, append-nil}
+use mathlib.Core.List.{List, [], _∷_, _++_, map, append-nil, flatten}
 use native.Mathlib.Omega.{arith}
 use lib.Dec.{leb, ltb, eqb}
 use lib.ListN.{length, take, drop, getD, length-drop, drop-of-length-le}
@@ -32,9 +32,9 @@ use Rattle.judge.proofs.Laws.{judge-zero}
 use Rattle.judge.proofs.Cases.{answered}
 use Rattle.message.specs.Writing.{writable}
 use Rattle.message.proofs.Writes.{writable-judged}
-use Rattle.packed.specs.Packed.{kindByte, sideByte, serviceByte, periodByte, codes, texts, textBytes, momentNumber, numbers, numberBytes, inRow, packedOf}
+use Rattle.packed.specs.Packed.{kindByte, sideByte, serviceByte, periodByte, codes, texts, textBytes, momentPacked, numbers, numberBytes, packedOf}
 use Rattle.unpacked.specs.Unpacked.{named, kindFrom, sideFrom, serviceFrom, periodFrom, textFrom, numberFrom, textsIn, numbersIn, tradeFrom, tradeIn, unpackedOf}
-use Rattle.unpacked.specs.Back.{textFits, periodFits, momentFits, numberFits, fits, byteFits, Again}
+use Rattle.unpacked.specs.Back.{textFits, periodFits, momentFits, numberFits, hasRoom, byteFits, Again}
 use Rattle.unpacked.specs.declared.Unpacked.{Unpacked}
 use Rattle.packed.proofs.Laws.{at-most-in, at-most-le, length-number}
 use Rattle.unpacked.proofs.Laws.{number-back, byte-small, bytes-take, bytes-drop, number-again, number-small, cut-row, length-row, row-parts, parts-again}
@@ -117,8 +117,8 @@ number-fits n e = let h = leb-true n 18446744073709551615 e in number-back 8 n (
 eight-again : (p : List ℕ) → length p ≡ 8 → hold (map byteFits p) ≡ true → numberBytes 8 (numberFrom p) ≡ p
 eight-again p l e = ap (λ (w : ℕ). numberBytes w (numberFrom p)) (sym l) ∙ number-again p e
 
-moment-back : (m : Moment) → momentFits m ≡ true → momentOf (momentNumber m) ≡ m
-unfolding momentFits momentOf momentNumber
+moment-back : (m : Moment) → momentFits m ≡ true → momentOf (momentPacked m) ≡ m
+unfolding momentFits momentOf momentPacked
 moment-back m e =
     let n : ℕ = m .date .0 * 1000000 + m .time .0 in
     let h : n ≤ 18446744073709551615 = leb-true n 18446744073709551615 (and-left _ _ e) in
@@ -127,8 +127,8 @@ moment-back m e =
     let r : n % 1000000 ≡ m .time .0 = omega arith in
     rw (at-most-in 999999 (m .time .0) t, at-most-in 18446744073709551615 n h, d, r)
 
-pub moment-again : (n : ℕ) → n ≤ 18446744073709551615 → momentNumber (momentOf n) ≡ n
-unfolding momentOf momentNumber
+pub moment-again : (n : ℕ) → n ≤ 18446744073709551615 → momentPacked (momentOf n) ≡ n
+unfolding momentOf momentPacked
 moment-again n h =
     let t : n % 1000000 ≤ 999999 = omega arith in
     let s : n / 1000000 * 1000000 + n % 1000000 ≡ n = omega arith in
@@ -136,17 +136,17 @@ moment-again n h =
 
 -- ---- unpacking what was packed
 
-module _ (t : Trade) (e : fits t ≡ true) where
+module _ (t : Trade) (e : hasRoom t ≡ true) where
   texts-fit : hold (map textFits (texts t)) ≡ true
-  unfolding fits
+  unfolding hasRoom
   texts-fit = and-left _ _ e
 
   numbers-fit : hold (map numberFits (numbers t)) ≡ true
-  unfolding fits
+  unfolding hasRoom
   numbers-fit = and-left _ _ (and-right (hold (map textFits (texts t))) _ e)
 
   others-fit : (periodFits (t .period) ≡ true) × (momentFits (t .prep) ≡ true) × (momentFits (t .trad) ≡ true)
-  unfolding fits
+  unfolding hasRoom
   others-fit =
       let r = and-right (hold (map numberFits (numbers t))) _ (and-right (hold (map textFits (texts t))) _ e) in
       let m = and-right (periodFits (t .period)) _ r in
@@ -154,13 +154,13 @@ module _ (t : Trade) (e : fits t ≡ true) where
 
   texts-back : textsIn (packedOf t) ≡ texts t
   unfolding textsIn packedOf codes texts
-  texts-back = cut-row textBytes textFrom textFits 21 text-long text-back (texts t) (inRow (map (numberBytes 8) (numbers t))) texts-fit
+  texts-back = cut-row textBytes textFrom textFits 21 text-long text-back (texts t) (flatten (map (numberBytes 8) (numbers t))) texts-fit
 
   numbers-back : numbersIn (packedOf t) ≡ numbers t
   unfolding numbersIn packedOf codes texts numbers
   numbers-back =
-      let row : List ℕ = inRow (map textBytes (texts t)) in
-      let rest : List ℕ = inRow (map (numberBytes 8) (numbers t)) in
+      let row : List ℕ = flatten (map textBytes (texts t)) in
+      let rest : List ℕ = flatten (map (numberBytes 8) (numbers t)) in
       let l : length row ≡ 315 = length-row textBytes textFrom textFits 21 text-long text-back (texts t) texts-fit in
       let d : drop 319 (packedOf t) ≡ rest ++ [] = sym (drop-drop 315 4 (packedOf t)) ∙ drop-at row rest 315 l ∙ sym (append-nil rest) in
       ap (λ (s : List ℕ). map numberFrom (parts 8 7 s)) d
@@ -225,7 +225,7 @@ module _ (a b c d : ℕ) (r : List ℕ) (l : length r ≡ 371) (e : hold (map by
       let s : List ℕ = drop 315 r in
       let k : length s ≡ 56 = length-drop 315 r ∙ omega arith in
       let end : drop 56 s ≡ [] = drop-of-length-le s {i = 56} (omega arith) in
-      let row : inRow (parts 8 7 s) ≡ s = sym (append-nil (inRow (parts 8 7 s))) ∙ ap (λ (q : List ℕ). inRow (parts 8 7 s) ++ q) (sym end) ∙ row-parts 8 7 s in
+      let row : flatten (parts 8 7 s) ≡ s = sym (append-nil (flatten (parts 8 7 s))) ∙ ap (λ (q : List ℕ). flatten (parts 8 7 s) ++ q) (sym end) ∙ row-parts 8 7 s in
       rw (codes-again, texts-again, numbers-again, row) (ap (λ (q : List ℕ). a ∷ b ∷ c ∷ d ∷ q) (row-parts 21 15 r))
 
 -- ---- what may be written has room
@@ -262,8 +262,8 @@ prep-fits m e = go (eqb (m .date .0) 0 && eqb (m .time .0) 0) refl e
         and-both (le-leb (m .date .0 * 1000000 + m .time .0) 18446744073709551615 (omega arith)) (le-leb (m .time .0) 999999 (omega arith))
     go false h q = moment-fits m q
 
-number-of-fits : (m : Moment) → numberFits (momentNumber m) ≡ true
-unfolding numberFits momentNumber
+number-of-fits : (m : Moment) → numberFits (momentPacked m) ≡ true
+unfolding numberFits momentPacked
 number-of-fits m = le-leb _ 18446744073709551615 (at-most-le 18446744073709551615 _)
 
 amount-fits : (a : Amount) → amountForm a ≡ true → (numberFits (a .number) ≡ true) × (numberFits (a .decimals) ≡ true)
@@ -317,15 +317,15 @@ module _ (t : Trade) (e : inForm t ≡ true) where
       (and-both (date-fits (t .sett .0) (at 8))
       (and-both (price .0) (and-both (price .1) (and-both (par .0) (and-both (par .1) refl))))))
 
-  form-all : fits t ≡ true
-  unfolding fits tests
+  form-all : hasRoom t ≡ true
+  unfolding hasRoom tests
   form-all =
       and-both form-texts
       (and-both form-numbers
       (and-both (period-fits (t .period) (and-left _ _ (at 21)))
       (and-both (prep-fits (t .prep) (at 3)) (moment-fits (t .trad) (at 7)))))
 
-pub writable-fits : (t : Trade) → writable t ≡ true → fits t ≡ true
+pub writable-fits : (t : Trade) → writable t ≡ true → hasRoom t ≡ true
 writable-fits t h = form-all t (judge-zero t (writable-judged t h) .0)
 
 -- ---- bytes that are no record

@@ -23,10 +23,10 @@ use Rattle.values.proofs.Fields.{hold-at, fitted-form}
 use Rattle.judge.proofs.Laws.{judge-zero}
 use Rattle.message.specs.Writing.{writable}
 use Rattle.message.proofs.Writes.{writable-judged}
-use Rattle.packed.specs.Packed.{atMost, periodByte, codes, texts, textBytes, momentNumber, numbers, packedOf}
+use Rattle.packed.specs.Packed.{atMost, periodByte, codes, texts, textBytes, momentPacked, numbers, packedOf}
 use Rattle.packed.proofs.Laws.{at-most-in, at-most-out, at-most-le}
 use Rattle.unpacked.specs.Unpacked.{unpackedOf}
-use Rattle.unpacked.specs.Back.{textFits, periodFits, momentFits, fits, textHeld, held, Itself}
+use Rattle.unpacked.specs.Back.{textFits, periodFits, momentFits, hasRoom, textHeld, typed, Itself}
 use Rattle.unpacked.specs.declared.Unpacked.{Unpacked}
 use Rattle.unpacked.proofs.Back.{moment-again, unpacks}
 
@@ -40,7 +40,7 @@ periodOf Period.Absent = Period.Absent
 periodOf (Period.Days n) = Period.Days (atMost 254 n)
 
 momentIn : Moment → Moment
-momentIn m = momentOf (momentNumber m)
+momentIn m = momentOf (momentPacked m)
 
 partyIn : Party → Party
 partyIn p = record { code = textIn (p .code); reference = textIn (p .reference); trader = textIn (p .trader) }
@@ -79,13 +79,13 @@ unfolding periodByte periodOf
 same-period Period.Absent = refl
 same-period (Period.Days n) = at-most-in 254 (atMost 254 n) (at-most-le 254 n)
 
-moment-most : (m : Moment) → momentNumber m ≤ 18446744073709551615
-unfolding momentNumber
+moment-most : (m : Moment) → momentPacked m ≤ 18446744073709551615
+unfolding momentPacked
 moment-most m = at-most-le 18446744073709551615 _
 
-same-moment : (m : Moment) → momentNumber (momentIn m) ≡ momentNumber m
+same-moment : (m : Moment) → momentPacked (momentIn m) ≡ momentPacked m
 unfolding momentIn
-same-moment m = moment-again (momentNumber m) (moment-most m)
+same-moment m = moment-again (momentPacked m) (moment-most m)
 
 same-bytes : (t : Trade) → packedOf (capped t) ≡ packedOf t
 unfolding packedOf codes texts numbers capped partyIn
@@ -130,7 +130,7 @@ period-room (Period.Days n) = le-leb (atMost 254 n) 254 (at-most-le 254 n)
 moment-room : (m : Moment) → momentFits (momentIn m) ≡ true
 unfolding momentFits momentIn momentOf
 moment-room m =
-    let n : ℕ = momentNumber m in
+    let n : ℕ = momentPacked m in
     let h : n ≤ 18446744073709551615 = moment-most m in
     and-both (le-leb (n / 1000000 * 1000000 + n % 1000000) 18446744073709551615 (omega arith)) (le-leb (n % 1000000) 999999 (omega arith))
 
@@ -142,8 +142,8 @@ capped-numbers : (t : Trade) → numbers (capped t) ≡ numbers t
 unfolding numbers capped
 capped-numbers t = rw (same-moment (t .prep), same-moment (t .trad))
 
-room : (t : Trade) → held t ≡ true → fits (capped t) ≡ true
-unfolding held fits
+room : (t : Trade) → typed t ≡ true → hasRoom (capped t) ≡ true
+unfolding typed hasRoom
 room t e =
     rw (capped-texts t, capped-numbers t)
     (and-both (texts-room (texts t) (and-left _ _ e))
@@ -184,7 +184,7 @@ module _ (m : Moment) where
 
   -- a date that is below a hundred millions was not cut down, nor was a time below a million
   moment-whole : (d t : ℕ) → momentIn m .date .0 ≡ d → momentIn m .time .0 ≡ t → d < 100000000 → t < 999999 → momentIn m ≡ m
-  unfolding momentIn momentOf momentNumber time all
+  unfolding momentIn momentOf momentPacked time all
   moment-whole d t a b h k = go (leb all 18446744073709551615) refl
     where
       n : ℕ

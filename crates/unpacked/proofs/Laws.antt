@@ -3,7 +3,7 @@
 use Prim.Native.Nat.{ℕ, zero, suc, _+_, _-_, _*_, _/_, _%_, _^_, _≤_, _<_}
 use mathlib.Core.Path.{_≡_, refl, sym, ap, _∙_}
 use mathlib.Core.Bool.{Bool, true, false, _&&_, cond}
-use mathlib.Core.List.{List, [], _∷_, _++_, map, append-assoc}
+use mathlib.Core.List.{List, [], _∷_, _++_, map, append-assoc, flatten}
 use native.Mathlib.Nat.{zero-mul, suc-mul, add-comm, pow-zero, pow-suc, div-lt-iff-lt-mul}
 use native.Mathlib.Omega.{arith}
 use lib.Arith.{digits-lt}
@@ -14,7 +14,7 @@ use borrow.Author.Tests.{leb-true}
 use Rattle.text.specs.Bytes.{parts}
 use Rattle.text.proofs.Laws.{and-left, and-right, and-both}
 use Rattle.values.specs.Writable.{hold}
-use Rattle.packed.specs.Packed.{numberBytes, inRow}
+use Rattle.packed.specs.Packed.{numberBytes}
 use Rattle.unpacked.specs.Unpacked.{numberFrom}
 use Rattle.unpacked.specs.Back.{byteFits}
 
@@ -70,26 +70,26 @@ number-small (b ∷ s) e =
 -- the places of a row that are cut from it are those that were put
 module _ {A : Type 0} (to : A → List ℕ) (from : List ℕ → A) (ok : A → Bool) (width : ℕ)
     (long : (x : A) → ok x ≡ true → length (to x) ≡ width) (back : (x : A) → ok x ≡ true → from (to x) ≡ x) where
-  pub cut-row : (xs : List A) (rest : List ℕ) → hold (map ok xs) ≡ true → map from (parts width (length xs) (inRow (map to xs) ++ rest)) ≡ xs
-  unfolding hold inRow parts
+  pub cut-row : (xs : List A) (rest : List ℕ) → hold (map ok xs) ≡ true → map from (parts width (length xs) (flatten (map to xs) ++ rest)) ≡ xs
+  unfolding hold flatten parts
   cut-row [] rest e = refl
   cut-row (x ∷ xs) rest e =
       let o = and-left _ _ e in
-      let tail : List ℕ = inRow (map to xs) ++ rest in
-      let a : (to x ++ inRow (map to xs)) ++ rest ≡ to x ++ tail = append-assoc (to x) (inRow (map to xs)) rest in
+      let tail : List ℕ = flatten (map to xs) ++ rest in
+      let a : (to x ++ flatten (map to xs)) ++ rest ≡ to x ++ tail = append-assoc (to x) (flatten (map to xs)) rest in
       rw (a, take-at (to x) tail width (long x o), drop-at (to x) tail width (long x o), back x o) (ap (λ (l : List A). x ∷ l) (cut-row xs rest (and-right (ok x) _ e)))
 
-  pub length-row : (xs : List A) → hold (map ok xs) ≡ true → length (inRow (map to xs)) ≡ length xs * width
-  unfolding hold inRow
+  pub length-row : (xs : List A) → hold (map ok xs) ≡ true → length (flatten (map to xs)) ≡ length xs * width
+  unfolding hold flatten
   length-row [] e = sym (zero-mul width)
   length-row (x ∷ xs) e =
       let l = length-row xs (and-right (ok x) _ e) in
       let m = long x (and-left _ _ e) in
-      length-append (to x) (inRow (map to xs)) ∙ rw (m, l, suc-mul) (omega arith)
+      length-append (to x) (flatten (map to xs)) ∙ rw (m, l, suc-mul) (omega arith)
 
 -- a text that is cut into places is the row of them, and what is left
-pub row-parts : (width n : ℕ) (s : List ℕ) → inRow (parts width n s) ++ drop (n * width) s ≡ s
-unfolding inRow parts
+pub row-parts : (width n : ℕ) (s : List ℕ) → flatten (parts width n s) ++ drop (n * width) s ≡ s
+unfolding flatten parts
 row-parts width zero s = rw zero-mul
 row-parts width (suc n) s =
     let d : drop (suc n * width) s ≡ drop (n * width) (drop width s) = rw (suc-mul, drop-drop (n * width) width s, add-comm (n * width) width) in

@@ -1,5 +1,5 @@
 pub mod Laws
-pub mod Turns
+pub mod Bytes
 pub mod Back
 pub mod Itself
 pub mod Lossless

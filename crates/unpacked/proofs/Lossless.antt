@@ -5,15 +5,15 @@ use native.Mathlib.Omega.{arith}
 use Rattle.trade.specs.Records.{nobody, never, blankTrade}
 use Rattle.values.specs.Writable.{hold}
 use Rattle.message.proofs.Writes.{judged}
-use Rattle.packed.specs.Packed.{atMost, texts, momentNumber, numbers}
+use Rattle.packed.specs.Packed.{atMost, texts, momentPacked, numbers}
 use Rattle.unpacked.specs.Unpacked.{unpackedOf}
-use Rattle.unpacked.specs.Back.{textFits, periodFits, momentFits, numberFits, fits, Lossless}
+use Rattle.unpacked.specs.Back.{textFits, periodFits, momentFits, numberFits, hasRoom, Lossless}
 use Rattle.unpacked.specs.declared.Unpacked.{Unpacked}
 use Rattle.unpacked.proofs.Back.{unpacks, writable-fits, packs-all, bad-blank, blank-judged}
 use Rattle.unpacked.proofs.Itself.{itself}
 
 pub lossless : Lossless
-unfolding fits textFits periodFits momentFits numberFits texts numbers momentNumber atMost hold nobody never blankTrade
+unfolding hasRoom textFits periodFits momentFits numberFits texts numbers momentPacked atMost hold nobody never blankTrade
 lossless =
     record {
       back = unpacks;

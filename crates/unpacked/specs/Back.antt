@@ -32,15 +32,15 @@ momentFits m = leb (m .date .0 * 1000000 + m .time .0) 18446744073709551615 && l
 unfoldable pub numberFits : ℕ → Bool
 numberFits n = leb n 18446744073709551615
 
-unfoldable pub fits : Trade → Bool
-fits t = hold (map textFits (texts t)) && (hold (map numberFits (numbers t)) && (periodFits (t .period) && (momentFits (t .prep) && momentFits (t .trad))))
+unfoldable pub hasRoom : Trade → Bool
+hasRoom t = hold (map textFits (texts t)) && (hold (map numberFits (numbers t)) && (periodFits (t .period) && (momentFits (t .prep) && momentFits (t .trad))))
 
 -- what the language sees to: a text has twenty bytes, and a number has room in eight
 unfoldable pub textHeld : Text → Bool
 textHeld t = eqb (length (t .bytes)) 20
 
-unfoldable pub held : Trade → Bool
-held t = hold (map textHeld (texts t)) && hold (map numberFits (numbers t))
+unfoldable pub typed : Trade → Bool
+typed t = hold (map textHeld (texts t)) && hold (map numberFits (numbers t))
 
 unfoldable pub byteFits : ℕ → Bool
 byteFits b = leb b 255
@@ -49,15 +49,15 @@ byteFits b = leb b 255
 
 -- unpacking gives back what was packed
 abbrev pub Back : Type 0
-Back = (t : Trade) → fits t ≡ true → unpackedOf (packedOf t) ≡ record { good = true; trade = t }
+Back = (t : Trade) → hasRoom t ≡ true → unpackedOf (packedOf t) ≡ record { good = true; trade = t }
 
 -- and so for every record that may be written, and for the blank one
 abbrev pub Fits : Type 0
-Fits = ((t : Trade) → writable t ≡ true → fits t ≡ true) × (fits blankTrade ≡ true)
+Fits = ((t : Trade) → writable t ≡ true → hasRoom t ≡ true) × (hasRoom blankTrade ≡ true)
 
 -- a field that has no room in its place never comes back as one that may be written: what may be written is what was packed
 abbrev pub Itself : Type 0
-Itself = (t : Trade) → held t ≡ true → writable (unpackedOf (packedOf t) .trade) ≡ true → unpackedOf (packedOf t) .trade ≡ t
+Itself = (t : Trade) → typed t ≡ true → writable (unpackedOf (packedOf t) .trade) ≡ true → unpackedOf (packedOf t) .trade ≡ t
 
 -- packing gives back the bytes that were unpacked: two records of bytes are never one record
 abbrev pub Again : Type 0

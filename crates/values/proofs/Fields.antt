@@ -17,8 +17,8 @@ use Rattle.text.specs.declared.Text.{Text}
 use Rattle.text.specs.declared.Class.the-variants.{C}
 use Rattle.text.proofs.Bools.{alike, or-case, or-one, or-two}
 use Rattle.text.proofs.Laws.{and-left, and-right, and-both, text-is, contents-of, in-form-of, in-form-facts, length-contents}
-use Rattle.digits.specs.Numerals.{fixedOf}
-use Rattle.amount.specs.Amounts.{isAmount, tidy, amountRead, amountNumber, amountText, valueOf as meaning, inForm as amountForm}
+use Rattle.digits.specs.Numerals.{wideNumber}
+use Rattle.amount.specs.Amounts.{isAmount, tidy, amountRead, amountNumber, amountText, meaning, inForm as amountForm}
 use Rattle.amount.specs.declared.AmountRead.{AmountRead}
 use Rattle.amount.proofs.Laws.{value-in-form, written-tidy}
 use Rattle.calendar.specs.Dates.{year, isDate, isTime, isMoment, dateRead, dateNumber, dateText, momentFrom, momentRead, momentNumber, momentText}
@@ -218,7 +218,7 @@ abbrev moment : ℕ → ℕ → Moment
 moment date time = record { date = record { 0 = date }; time = record { 0 = time } }
 
 nothing-read : momentOr0 (momentRead []) ≡ moment 0 0
-unfolding momentRead momentFrom fixedOf
+unfolding momentRead momentFrom wideNumber
 nothing-read = refl
 
 pub prep-back : (m : Moment) → prepForm m ≡ true → momentOr0 (momentRead (momentText m)) ≡ m
@@ -244,6 +244,6 @@ prep-number m e = go (isMoment m) refl
 
 pub prep-held : (v : List ℕ) → (v ≡ []) ⊎ (momentNumber (momentRead v) ≡ 0)
     → (prepForm (momentOr0 (momentRead v)) ≡ true) × (momentText (momentOr0 (momentRead v)) ≡ v)
-unfolding prepForm momentRead momentFrom momentText fixedOf isMoment isDate isTime year
+unfolding prepForm momentRead momentFrom momentText wideNumber isMoment isDate isTime year
 prep-held v (inl e) = rw e (refl, refl)
 prep-held v (inr e) = let h = moment-held v e in (rw (h .0) (or-true (eqb (momentOr0 (momentRead v) .date .0) 0 && eqb (momentOr0 (momentRead v) .time .0) 0)), h .1)

@@ -1,7 +1,7 @@
 pub mod Fields
 pub mod Narratives
 pub mod Laws
-pub mod Turns
+pub mod Widths
 pub mod Places
 pub mod Cases
 pub mod Laid

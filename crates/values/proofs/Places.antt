@@ -4,7 +4,7 @@
 use Prim.Native.Nat.{ℕ, zero, suc, _+_, _-_, _≤_, _<_}
 use mathlib.Core.Path.{_≡_, refl, sym, ap, _∙_}
 use mathlib.Core.Bool.{Bool, true, false, _&&_, cond}
-use mathlib.Core.List.{List, [], _∷_, _++_, append-assoc, append-nil}
+use mathlib.Core.List.{List, [], _∷_, _++_, append-assoc, append-nil, flatten}
 use native.Mathlib.Nat.{add-zero, add-suc, suc-add, zero-sub}
 use native.Mathlib.Omega.{arith}
 use lib.Dec.{leb}
@@ -14,18 +14,18 @@ use borrow.Author.Tests.{le-leb}
 use Rattle.text.specs.Copy.{over, fits, placed, after}
 use Rattle.text.proofs.Laws.{over-nil, length-placed}
 use Rattle.stretches.specs.Stretches.{between, stretchOf}
-use Rattle.fill.specs.Runs.{overRun, behindRun, flat}
+use Rattle.fill.specs.Runs.{overRun, behindRun}
 use Rattle.fill.proofs.Runs.{then, flat-append, end-of, whole}
 use Rattle.values.specs.Places.{ends}
 
 -- ---- values put from a place on: the place behind them, what the text holds, where each ends, and the bytes that they have at most
 
 abbrev pub Kept : List ℕ → ℕ → List (List ℕ) → ℕ → List ℕ → List ℕ → ℕ → Type 0
-Kept buf at vs r now es n = (r ≡ behindRun buf at vs) × (now ≡ overRun buf at vs) × (es ≡ ends buf at vs) × (length (flat vs) ≤ n)
+Kept buf at vs r now es n = (r ≡ behindRun buf at vs) × (now ≡ overRun buf at vs) × (es ≡ ends buf at vs) × (length (flatten vs) ≤ n)
 
 pub kept : (buf : List ℕ) (at : ℕ) (v : List ℕ) {r : ℕ} {now : List ℕ} (n : ℕ) → (r ≡ after buf at v) × (now ≡ placed buf at v) × (length v ≤ n)
     → Kept buf at (v ∷ []) r now (r ∷ []) n
-unfolding behindRun overRun ends flat
+unfolding behindRun overRun ends flatten
 kept buf at v n p = let l = length-append v [] in let h = p .2 in (p .0, p .1, ap (λ (x : ℕ). x ∷ []) (p .0), omega arith)
 
 ends-append : (vs ws : List (List ℕ)) (buf : List ℕ) (at : ℕ) → ends buf at (vs ++ ws) ≡ ends buf at vs ++ ends (overRun buf at vs) (behindRun buf at vs) ws
@@ -38,7 +38,7 @@ pub behind : (buf : List ℕ) (at : ℕ) (vs ws : List (List ℕ)) {r₁ r₂ : 
 behind buf at vs ws es fs n m p q =
     let t = then buf at vs ws (p .0, p .1) (q .0, q .1) in
     let l = ap length (flat-append vs ws) in
-    let k = length-append (flat vs) (flat ws) in
+    let k = length-append (flatten vs) (flatten ws) in
     let x = p .3 in
     let y = q .3 in
     (t .0, t .1, rw (p .2, q .2, p .0, p .1) (sym (ends-append vs ws buf at)), omega arith)
@@ -69,7 +69,7 @@ sets-all es ps h =
 
 -- the same with the places kept from the k-th on, which is what each block says
 abbrev pub Stored : List ℕ → List ℕ → ℕ → ℕ → List (List ℕ) → ℕ → List ℕ → List ℕ → ℕ → Type 0
-Stored buf ps at k vs r now qs n = (r ≡ behindRun buf at vs) × (now ≡ overRun buf at vs) × (qs ≡ sets ps k (ends buf at vs)) × (length (flat vs) ≤ n)
+Stored buf ps at k vs r now qs n = (r ≡ behindRun buf at vs) × (now ≡ overRun buf at vs) × (qs ≡ sets ps k (ends buf at vs)) × (length (flatten vs) ≤ n)
 
 pub stored : (buf ps : List ℕ) (at k : ℕ) (vs : List (List ℕ)) {r : ℕ} {now qs : List ℕ} (es : List ℕ) (n : ℕ)
     → Kept buf at vs r now es n → qs ≡ sets ps k es → Stored buf ps at k vs r now qs n
@@ -84,7 +84,7 @@ pub more : (buf ps : List ℕ) (at k l : ℕ) (vs ws : List (List ℕ)) {r₁ r�
     → Stored buf ps at k vs r₁ b₁ p₁ n → Stored b₁ p₁ r₁ l ws r₂ b₂ p₂ m → Stored buf ps at k (vs ++ ws) r₂ b₂ p₂ (n + m)
 more buf ps at k l vs ws n m g p q =
     let t = then buf at vs ws (p .0, p .1) (q .0, q .1) in
-    let x = length-append (flat vs) (flat ws) in
+    let x = length-append (flatten vs) (flatten ws) in
     let y = ap length (flat-append vs ws) in
     let h = p .3 in
     let i = q .3 in
@@ -98,7 +98,7 @@ more buf ps at k l vs ws n m g p q =
 
 -- all of them, in as many places as there are
 pub all-places : (buf ps : List ℕ) (vs : List (List ℕ)) {r : ℕ} {now qs : List ℕ} (n : ℕ) → length ps ≡ suc (length vs)
-    → Stored buf (set ps 0 0) 0 1 vs r now qs n → (now ≡ overRun buf 0 vs) × (qs ≡ 0 ∷ ends buf 0 vs) × (length (flat vs) ≤ n)
+    → Stored buf (set ps 0 0) 0 1 vs r now qs n → (now ≡ overRun buf 0 vs) × (qs ≡ 0 ∷ ends buf 0 vs) × (length (flatten vs) ≤ n)
 all-places buf ps vs n h p = (p .1, p .2 ∙ sets-all (0 ∷ ends buf 0 vs) ps (h ∙ ap suc (sym (length-ends vs buf 0))), p .3)
 
 -- the loop that keeps them
@@ -118,11 +118,11 @@ abbrev sums : ℕ → List (List ℕ) → List ℕ
 sums at [] = []
 sums at (v ∷ vs) = (at + length v) ∷ sums (at + length v) vs
 
-ends-sums : (vs : List (List ℕ)) (buf : List ℕ) (at : ℕ) → at + length (flat vs) ≤ length buf → ends buf at vs ≡ sums at vs
-unfolding flat ends
+ends-sums : (vs : List (List ℕ)) (buf : List ℕ) (at : ℕ) → at + length (flatten vs) ≤ length buf → ends buf at vs ≡ sums at vs
+unfolding flatten ends
 ends-sums [] buf at h = refl
 ends-sums (v ∷ vs) buf at h =
-    let l = length-append v (flat vs) in
+    let l = length-append v (flatten vs) in
     let e : after buf at v ≡ at + length v = end-of buf at v {r = after buf at v} refl (omega arith) in
     let n = length-placed buf at v in
     rw e (ap (λ (es : List ℕ). (at + length v) ∷ es) (ends-sums vs (placed buf at v) (at + length v) (omega arith)))
@@ -144,18 +144,18 @@ between-none m from = go (leb from 0 && leb 0 (length m))
     go false = refl
 
 stretch-is : (vs : List (List ℕ)) (pre post : List ℕ) (at : ℕ) → length pre ≡ at → (slot : ℕ)
-    → stretchOf (pre ++ (flat vs ++ post)) (at ∷ sums at vs) (sums at vs) slot ≡ getD vs slot []
-unfolding flat stretchOf
+    → stretchOf (pre ++ (flatten vs ++ post)) (at ∷ sums at vs) (sums at vs) slot ≡ getD vs slot []
+unfolding flatten stretchOf
 stretch-is [] pre post at e slot = between-none (pre ++ post) (getD (at ∷ []) slot 0)
-stretch-is (v ∷ vs) pre post at e zero = rw (append-assoc v (flat vs) post) (between-is pre v (flat vs ++ post) at e)
+stretch-is (v ∷ vs) pre post at e zero = rw (append-assoc v (flatten vs) post) (between-is pre v (flatten vs ++ post) at e)
 stretch-is (v ∷ vs) pre post at e (suc slot) =
     let l = length-append pre v in
-    rw (append-assoc v (flat vs) post, ← append-assoc pre v (flat vs ++ post)) (stretch-is vs (pre ++ v) post (at + length v) (omega arith) slot)
+    rw (append-assoc v (flatten vs) post, ← append-assoc pre v (flatten vs ++ post)) (stretch-is vs (pre ++ v) post (at + length v) (omega arith) slot)
 
-pub stretch-held : (vs : List (List ℕ)) (buf : List ℕ) → length (flat vs) ≤ length buf → (slot : ℕ)
+pub stretch-held : (vs : List (List ℕ)) (buf : List ℕ) → length (flatten vs) ≤ length buf → (slot : ℕ)
     → stretchOf (overRun buf 0 vs) (0 ∷ ends buf 0 vs) (ends buf 0 vs) slot ≡ getD vs slot []
 unfolding placed over fits
 stretch-held vs buf h slot =
     let w = whole vs buf 0 {r = behindRun buf 0 vs} {now = overRun buf 0 vs} (refl, refl) (omega arith) in
-    let f : leb (0 + length (flat vs)) (length buf) ≡ true = le-leb (0 + length (flat vs)) (length buf) (omega arith) in
-    rw (w .1, ends-sums vs buf 0 (omega arith), f) (stretch-is vs [] (drop (0 + length (flat vs)) buf) 0 refl slot)
+    let f : leb (0 + length (flatten vs)) (length buf) ≡ true = le-leb (0 + length (flatten vs)) (length buf) (omega arith) in
+    rw (w .1, ends-sums vs buf 0 (omega arith), f) (stretch-is vs [] (drop (0 + length (flatten vs)) buf) 0 refl slot)

@@ -7,10 +7,10 @@ pub mod words;
 
 use trade::Trade;
 ghost use mathlib.Core.Path.{_≡_};
-ghost use mathlib.Core.List.{_∷_};
+ghost use mathlib.Core.List.{_∷_, flatten};
 ghost use Prim.Native.Nat.{_≤_};
 ghost use lib.ListN.{length};
-ghost use Rattle.fill.specs.Runs.{overRun, flat};
+ghost use Rattle.fill.specs.Runs.{overRun};
 ghost use Rattle.values.specs.Values.{values, valueOf};
 ghost use Rattle.values.specs.Places.{ends};
 
@@ -20,7 +20,7 @@ pub const OPTIONAL: [u8; 9] = *b"\x03\x04\x05\x06\x0d\x0e\x10\x11\x14";
 // Puts the values of a record, one behind the other, at the start of a lent text, each where it has room, and keeps the place
 // where each begins: the value of a slot ends where that of the next begins. A text of 398 bytes has room for all.
 pub fn put_values(text: &mut [u8], places: &mut [usize; 31], trade: Trade)
-    ensures { λ _. ⌜ (now (text .exit) ≡ overRun (now (text .entry)) 0 (values trade)) × (now (places .exit) ≡ 0 ∷ ends (now (text .entry)) 0 (values trade)) × (length (flat (values trade)) ≤ 398) ⌝ }
+    ensures { λ _. ⌜ (now (text .exit) ≡ overRun (now (text .entry)) 0 (values trade)) × (now (places .exit) ≡ 0 ∷ ends (now (text .entry)) 0 (values trade)) × (length (flatten (values trade)) ≤ 398) ⌝ }
 {
     places[0] = 0;
     places[1] = 0;

@@ -8,13 +8,13 @@ use trade::Kind;
 use trade::Side;
 use trade::Trade;
 ghost use mathlib.Core.Path.{_≡_};
-ghost use mathlib.Core.List.{[], _∷_};
+ghost use mathlib.Core.List.{[], _∷_, flatten};
 ghost use Prim.Native.Nat.{_+_, _≤_};
 ghost use lib.ListN.{length, take, drop};
 ghost use lib.Seq.{sets};
 ghost use Rattle.text.specs.Texts.{contents};
 ghost use Rattle.text.specs.Copy.{placed, after};
-ghost use Rattle.fill.specs.Runs.{overRun, behindRun, flat};
+ghost use Rattle.fill.specs.Runs.{overRun, behindRun};
 ghost use Rattle.values.specs.Values.{values, sideWord, kindWord};
 ghost use Rattle.values.specs.Places.{ends};
 
@@ -51,7 +51,7 @@ pub(crate) fn put_three(
     ensures { λ r. ⌜ (r ≡ behindRun (now (text .entry)) at (contents first ∷ contents second ∷ contents third ∷ []))
         × (now (text .exit) ≡ overRun (now (text .entry)) at (contents first ∷ contents second ∷ contents third ∷ []))
         × (now (places .exit) ≡ sets (now (places .entry)) k (ends (now (text .entry)) at (contents first ∷ contents second ∷ contents third ∷ [])))
-        × (length (flat (contents first ∷ contents second ∷ contents third ∷ [])) ≤ 60) ⌝ }
+        × (length (flatten (contents first ∷ contents second ∷ contents third ∷ [])) ≤ 60) ⌝ }
 {
     let one = put_text(text, at, first);
     let two = put_text(text, one, second);
@@ -66,7 +66,7 @@ pub(crate) fn put_general(text: &mut [u8], places: &mut [usize], trade: Trade) -
     ensures { λ r. ⌜ (r ≡ behindRun (now (text .entry)) 0 (take 6 (drop 1 (values trade))))
         × (now (text .exit) ≡ overRun (now (text .entry)) 0 (take 6 (drop 1 (values trade))))
         × (now (places .exit) ≡ sets (now (places .entry)) 2 (ends (now (text .entry)) 0 (take 6 (drop 1 (values trade)))))
-        × (length (flat (take 6 (drop 1 (values trade)))) ≤ 98) ⌝ }
+        × (length (flatten (take 6 (drop 1 (values trade)))) ≤ 98) ⌝ }
 {
     let kind = trade.kind;
     let seme = put_text(text, 0, trade.seme);
@@ -82,7 +82,7 @@ fn put_words(text: &mut [u8], places: &mut [usize], at: usize, side: Side, kind:
     ensures { λ r. ⌜ (r ≡ behindRun (now (text .entry)) at (sideWord side ∷ kindWord kind ∷ []))
         × (now (text .exit) ≡ overRun (now (text .entry)) at (sideWord side ∷ kindWord kind ∷ []))
         × (now (places .exit) ≡ sets (now (places .entry)) 11 (ends (now (text .entry)) at (sideWord side ∷ kindWord kind ∷ [])))
-        × (length (flat (sideWord side ∷ kindWord kind ∷ [])) ≤ 8) ⌝ }
+        × (length (flatten (sideWord side ∷ kindWord kind ∷ [])) ≤ 8) ⌝ }
 {
     let buse = text::put(text, at, &words::side_word(side));
     let proc = text::put(text, buse, &words::kind_word(kind));
@@ -96,7 +96,7 @@ pub(crate) fn put_details(text: &mut [u8], places: &mut [usize], at: usize, trad
     ensures { λ r. ⌜ (r ≡ behindRun (now (text .entry)) at (take 5 (drop 7 (values trade))))
         × (now (text .exit) ≡ overRun (now (text .entry)) at (take 5 (drop 7 (values trade))))
         × (now (places .exit) ≡ sets (now (places .entry)) 8 (ends (now (text .entry)) at (take 5 (drop 7 (values trade)))))
-        × (length (flat (take 5 (drop 7 (values trade)))) ≤ 45) ⌝ }
+        × (length (flatten (take 5 (drop 7 (values trade)))) ≤ 45) ⌝ }
 {
     let side = trade.side;
     let kind = trade.kind;
@@ -113,7 +113,7 @@ pub(crate) fn put_security(text: &mut [u8], places: &mut [usize], at: usize, tra
     ensures { λ r. ⌜ (r ≡ behindRun (now (text .entry)) at (take 4 (drop 18 (values trade))))
         × (now (text .exit) ≡ overRun (now (text .entry)) at (take 4 (drop 18 (values trade))))
         × (now (places .exit) ≡ sets (now (places .entry)) 19 (ends (now (text .entry)) at (take 4 (drop 18 (values trade)))))
-        × (length (flat (take 4 (drop 18 (values trade)))) ≤ 95) ⌝ }
+        × (length (flatten (take 4 (drop 18 (values trade)))) ≤ 95) ⌝ }
 {
     let service = trade.service;
     let period = trade.period;
@@ -137,7 +137,7 @@ pub(crate) fn put_header(
     ensures { λ r. ⌜ (r ≡ behindRun (now (text .entry)) at ([] ∷ [] ∷ [] ∷ [] ∷ [] ∷ [] ∷ contents password ∷ contents sender ∷ []))
         × (now (text .exit) ≡ overRun (now (text .entry)) at ([] ∷ [] ∷ [] ∷ [] ∷ [] ∷ [] ∷ contents password ∷ contents sender ∷ []))
         × (now (places .exit) ≡ sets (now (places .entry)) 23 (ends (now (text .entry)) at ([] ∷ [] ∷ [] ∷ [] ∷ [] ∷ [] ∷ contents password ∷ contents sender ∷ [])))
-        × (length (flat ([] ∷ [] ∷ [] ∷ [] ∷ [] ∷ [] ∷ contents password ∷ contents sender ∷ [])) ≤ 40) ⌝ }
+        × (length (flatten ([] ∷ [] ∷ [] ∷ [] ∷ [] ∷ [] ∷ contents password ∷ contents sender ∷ [])) ≤ 40) ⌝ }
 {
     let first = put_text(text, at, password);
     let second = put_text(text, first, sender);

@@ -1,4 +1,4 @@
-pub mod Turns
+pub mod Header
 pub mod Laws
 pub mod Messages
 pub mod Writes

@@ -20,7 +20,7 @@ use Rattle.sheets.proofs.Once.{has-append}
 use Rattle.format.specs.Format.{Format, optional}
 use Rattle.format.specs.Writing.{behindIn, headLine, linesFor, messageOf}
 use Rattle.format.proofs.Tests.{every, every-at}
-use Rattle.fill.specs.Filling.{Lent, isAny, frontOf, valueAt, behindAt}
+use Rattle.fill.specs.Filling.{Lent, isAny, fixedIn, valueAt, behindAt}
 use Rattle.fill.proofs.Runs.{Put, Run}
 use Rattle.writer.specs.Parts.{messageParts}
 use Rattle.writer.proofs.Laws.{headLines, lines, put-whole}
@@ -67,7 +67,7 @@ module _ (F : Format) (r : F .Held) (l : Lent) (rows : List ℕ) (rows-are : row
     (slots-are : (s : ℕ) → slotAt (l .slots) s ≡ F .slotOf s) (may-are : (s : ℕ) → isAny (l .optional) s ≡ optional F s)
     (held : (s : ℕ) → valueAt l s ≡ F .valueOf r s) where
   behind-is : (s : ℕ) → behindAt l s ≡ behindIn F (F .valueOf r) s
-  unfolding frontOf behindIn
+  unfolding fixedIn behindIn
   behind-is s = rw (held s, may-are s, slots-are s) (left-out (optional F s) (F .slotOf s .fixed) (F .valueOf r s))
 
   lines-are : lines l (F .header) rows (F .tree) rows-are ≡ linesFor F r

@@ -8,7 +8,7 @@ use denote.Ref.{now}
 use borrow.Author.Tests.{not-true, not-false}
 use Rattle.text.specs.Classes.{allIn}
 use Rattle.text.specs.declared.Class.the-variants.{Digit}
-use Rattle.amount.proofs.Turns.{rest-wrong, whole-wrong, within, never-not, room, parts-good}
+use Rattle.amount.proofs.Noughts.{rest-wrong, whole-wrong, within, never-not, room, parts-good}
 use borrow.Author.Needs.{needs}
 use Rattle.amount.proofs.from_parts.Statement.{statement}
 use Rattle.amount.proofs.from_parts.Tie as tie

@@ -6,7 +6,7 @@ use lib.ListN.{length, take}
 use lib.Seq.{take-length}
 use native.Mathlib.Omega.{arith}
 use Rattle.amount.specs.Amounts.{shortened}
-use Rattle.amount.proofs.Turns.{lasts, goes, none-left}
+use Rattle.amount.proofs.Noughts.{lasts, goes, none-left}
 use Rattle.amount.proofs.lasting.Statement.{statement}
 use Rattle.amount.proofs.lasting.Tie as tie
 

@@ -6,7 +6,7 @@ use lib.ListN.{length, drop}
 use native.Mathlib.Omega.{arith}
 use borrow.Author.Needs.{needs}
 use Rattle.amount.specs.Amounts.{noughts}
-use Rattle.amount.proofs.Turns.{leads, leads-more, leads-all}
+use Rattle.amount.proofs.Noughts.{leads, leads-more, leads-all}
 use Rattle.amount.proofs.leading.Statement.{statement}
 use Rattle.amount.proofs.leading.Tie as tie
 

@@ -2,7 +2,7 @@
 use native.Mathlib.Omega.{arith}
 use mathlib.Core.Path.{_≡_}
 use lib.ListN.{length, length-take}
-use Rattle.amount.proofs.Turns.{spread-line}
+use Rattle.amount.proofs.Noughts.{spread-line}
 use borrow.Author.Needs.{needs}
 use Rattle.amount.proofs.spread_out.Statement.{statement}
 use Rattle.amount.proofs.spread_out.Tie as tie

@@ -2,7 +2,7 @@
 use native.Mathlib.Omega.{arith}
 use borrow.Author.Needs.{needs}
 use Rattle.pieces.proofs.Laws.{piece-within}
-use Rattle.batch.proofs.Turns.{next-message, next-done, next-past}
+use Rattle.batch.proofs.Answers.{next-message, next-done, next-past}
 use Rattle.batch.proofs.next.Statement.{statement}
 use Rattle.batch.proofs.next.Tie as tie
 

@@ -11,7 +11,7 @@ use borrow.Author.Tests.{not-true, not-false}
 use borrow.Fn.Kinds.{In}
 use borrow.Fn.PlainCycle.{Measures, is, falls, and}
 use Rattle.lines.proofs.Laws.{Located, located}
-use Rattle.blocks.proofs.Turns.{about, about-long, block-ninth, block-items, Ahead, ahead-all, all-done, wrong-line, end-top, end-inside, field-more, close-other, close-same, open-stop, open-more}
+use Rattle.blocks.proofs.Ways.{about, about-long, block-ninth, block-items, Ahead, ahead-all, all-done, wrong-line, end-top, end-inside, field-more, close-other, close-same, open-stop, open-more}
 use Rattle.blocks.proofs.block.Reads as block
 use Rattle.blocks.proofs.block.Kinds as block-kinds
 use Rattle.blocks.proofs.+block+items.Lts-block as block-lts

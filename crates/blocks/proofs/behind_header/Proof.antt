@@ -7,7 +7,7 @@ use lib.ListN.{length, drop}
 use borrow.Author.Needs.{needs}
 use Rattle.lines.specs.Lines.{linesOf}
 use Rattle.lines.proofs.Laws.{lines-next}
-use Rattle.blocks.proofs.Turns.{header-more}
+use Rattle.blocks.proofs.Ways.{header-more}
 use Rattle.blocks.proofs.behind_header.Statement.{statement}
 use Rattle.blocks.proofs.behind_header.Tie as tie
 

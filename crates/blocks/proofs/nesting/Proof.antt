@@ -1,6 +1,6 @@
 -- `blocks::nesting` meets its contract. Assumes nothing.
 use Rattle.lines.specs.Verdicts.{refused, pass}
-use Rattle.blocks.proofs.Turns.{nest-good, nest-wrong}
+use Rattle.blocks.proofs.Ways.{nest-good, nest-wrong}
 use borrow.Author.Needs.{needs}
 use Rattle.blocks.proofs.nesting.Statement.{statement}
 use Rattle.blocks.proofs.nesting.Tie as tie

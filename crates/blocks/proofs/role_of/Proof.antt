@@ -4,7 +4,7 @@ use borrow.Author.Tests.{not-true, not-false}
 use Rattle.text.specs.Bytes.{bytes}
 use Rattle.text.proofs.Laws.{rest-of}
 use Rattle.blocks.specs.Blocks.{nameOf, roleOf}
-use Rattle.blocks.proofs.Turns.{tagged-long}
+use Rattle.blocks.proofs.Ways.{tagged-long}
 use borrow.Author.Needs.{needs}
 use Rattle.blocks.proofs.role_of.Statement.{statement}
 use Rattle.blocks.proofs.role_of.Tie as tie

@@ -2,7 +2,7 @@
 use mathlib.Core.Logic.{⊎-elim}
 use borrow.Author.Tests.{eq-eqb, ne-eqb}
 use Rattle.calendar.specs.Dates.{monthLength, lengths}
-use Rattle.calendar.proofs.Turns.{no-month}
+use Rattle.calendar.proofs.Months.{no-month}
 use borrow.Author.Needs.{needs}
 use Rattle.calendar.proofs.month_length.Statement.{statement}
 use Rattle.calendar.proofs.month_length.Tie as tie

@@ -7,7 +7,7 @@ use native.Mathlib.Omega.{arith}
 use borrow.Author.Needs.{needs}
 use Rattle.text.specs.Copy.{over}
 use Rattle.digits.specs.Numerals.{digits}
-use Rattle.digits.proofs.Turns.{put-none, put-more, put-done}
+use Rattle.digits.proofs.Spelling.{put-none, put-more, put-done}
 use Rattle.digits.proofs.put_digits.Statement.{statement}
 use Rattle.digits.proofs.put_digits.Tie as tie
 

@@ -8,7 +8,7 @@ use lib.ListN.{length}
 use native.Mathlib.Omega.{arith}
 use borrow.Author.Needs.{needs}
 use borrow.Author.Tests.{not-true, not-false}
-use Rattle.digits.proofs.Turns.{Ahead, ahead-all, too-long, small-enough, stop, again, done}
+use Rattle.digits.proofs.Spelling.{Ahead, ahead-all, too-long, small-enough, stop, again, done}
 use Rattle.digits.proofs.read_digits.Statement.{statement}
 use Rattle.digits.proofs.read_digits.Tie as tie
 

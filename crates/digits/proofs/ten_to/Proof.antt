@@ -1,5 +1,5 @@
 -- `digits::ten_to` meets its contract: the table is the powers of ten, by computation. Assumes nothing.
-use Rattle.digits.proofs.Turns.{ten-in, ten-out}
+use Rattle.digits.proofs.Spelling.{ten-in, ten-out}
 use borrow.Author.Needs.{needs}
 use Rattle.digits.proofs.ten_to.Statement.{statement}
 use Rattle.digits.proofs.ten_to.Tie as tie

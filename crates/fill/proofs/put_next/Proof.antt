@@ -1,6 +1,6 @@
 -- `fill::put_next` meets its contract. Assumes nothing.
 use Rattle.fill.specs.Filling.{Lent, lent, behindAt, partsAt}
-use Rattle.fill.proofs.Turns.{puts-of, next-on, next-past}
+use Rattle.fill.proofs.Rows.{puts-of, next-on, next-past}
 use borrow.Author.Needs.{needs}
 use Rattle.fill.proofs.put_next.Statement.{statement}
 use Rattle.fill.proofs.put_next.Tie as tie

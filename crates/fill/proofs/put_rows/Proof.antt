@@ -4,7 +4,7 @@ use mathlib.Core.Path.{refl}
 use native.Mathlib.Omega.{arith}
 use borrow.Author.Needs.{needs}
 use Rattle.fill.specs.Filling.{Lent, lent, behindAt, partsAt, filling}
-use Rattle.fill.proofs.Turns.{Same, rows-more, rows-done}
+use Rattle.fill.proofs.Rows.{Same, rows-more, rows-done}
 use Rattle.fill.proofs.put_rows.Statement.{statement}
 use Rattle.fill.proofs.put_rows.Tie as tie
 

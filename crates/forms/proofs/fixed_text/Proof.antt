@@ -1,7 +1,7 @@
 -- `forms::fixed_text` meets its contract. Assumes nothing.
 use Rattle.forms.specs.Forms.{Slot}
 use mathlib.Core.Path.{sym, ap, refl}
-use Rattle.forms.proofs.Turns.{slot-none, fixed-part}
+use Rattle.forms.proofs.Parts.{slot-none, fixed-part}
 use borrow.Author.Needs.{needs}
 use Rattle.forms.proofs.fixed_text.Statement.{statement}
 use Rattle.forms.proofs.fixed_text.Tie as tie

@@ -5,7 +5,7 @@ use borrow.Author.Tests.{not-true, not-false}
 use denote.Ref.{now}
 use Rattle.text.specs.Bytes.{begins}
 use Rattle.text.proofs.Laws.{begins-length}
-use Rattle.forms.proofs.Turns.{form-is, not-fixed, judged, unjudged}
+use Rattle.forms.proofs.Parts.{form-is, not-fixed, judged, unjudged}
 use borrow.Author.Needs.{needs}
 use Rattle.forms.proofs.judge.Statement.{statement}
 use Rattle.forms.proofs.judge.Tie as tie

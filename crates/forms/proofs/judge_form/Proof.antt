@@ -4,7 +4,7 @@ use Rattle.amount.specs.Amounts.{amountNumber}
 use Rattle.calendar.specs.Dates.{dateNumber, momentNumber}
 use Rattle.forms.specs.Forms.{unless, formNumber}
 use Rattle.forms.specs.Slots.{formOf}
-use Rattle.forms.proofs.Turns.{words-number, past-six, no-form}
+use Rattle.forms.proofs.Parts.{words-number, past-six, no-form}
 use borrow.Author.Needs.{needs}
 use Rattle.forms.proofs.judge_form.Statement.{statement}
 use Rattle.forms.proofs.judge_form.Tie as tie

@@ -7,7 +7,7 @@ use native.Mathlib.Omega.{arith}
 use borrow.Author.Needs.{needs}
 use Rattle.forms.specs.Forms.{wordAt}
 use Rattle.forms.specs.Slots.{wordsOf}
-use Rattle.forms.proofs.Turns.{word-here, word-further, word-none, four-from, fours}
+use Rattle.forms.proofs.Parts.{word-here, word-further, word-none, four-from, fours}
 use Rattle.forms.proofs.word_at.Statement.{statement}
 use Rattle.forms.proofs.word_at.Tie as tie
 

@@ -7,7 +7,7 @@ use native.Mathlib.Omega.{arith}
 use borrow.Author.Needs.{needs}
 use Rattle.forms.specs.Forms.{wordAt}
 use Rattle.forms.specs.Slots.{wordsIn}
-use Rattle.forms.proofs.Turns.{word-here, word-further, word-none, line-from, word-lines}
+use Rattle.forms.proofs.Parts.{word-here, word-further, word-none, line-from, word-lines}
 use Rattle.forms.proofs.word_in.Statement.{statement}
 use Rattle.forms.proofs.word_in.Tie as tie
 

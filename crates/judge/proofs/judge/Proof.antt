@@ -1,7 +1,7 @@
 -- `judge::judge` meets its contract. Assumes nothing.
 use mathlib.Core.Path.{sym, _∙_}
 use borrow.Author.Tests.{not-true, not-false}
-use Rattle.judge.proofs.Turns.{out-of-form, rule-broken, too-long, nothing-wrong}
+use Rattle.judge.proofs.Tests.{out-of-form, rule-broken, too-long, nothing-wrong}
 use borrow.Author.Needs.{needs}
 use Rattle.judge.proofs.judge.Statement.{statement}
 use Rattle.judge.proofs.judge.Tie as tie

@@ -1,5 +1,5 @@
 -- `kinds::has_forbidden` meets its contract: each arm is its kind's line of the definition. Assumes nothing.
-use Rattle.kinds.proofs.Turns.{by-kind}
+use Rattle.kinds.proofs.Rules.{by-kind}
 use Rattle.kinds.specs.Kinds.{hasForbidden}
 use borrow.Author.Needs.{needs}
 use Rattle.kinds.proofs.has_forbidden.Statement.{statement}

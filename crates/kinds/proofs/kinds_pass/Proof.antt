@@ -2,7 +2,7 @@
 use mathlib.Core.Path.{refl, sym, ap, _∙_}
 use mathlib.Core.Bool.{not}
 use Rattle.kinds.specs.Kinds.{kindsPass}
-use Rattle.kinds.proofs.Turns.{stops, goes-on}
+use Rattle.kinds.proofs.Rules.{stops, goes-on}
 use borrow.Author.Needs.{needs}
 use Rattle.kinds.proofs.kinds_pass.Statement.{statement}
 use Rattle.kinds.proofs.kinds_pass.Tie as tie

@@ -1,5 +1,5 @@
 -- `layout::fit` meets its contract. Assumes nothing.
-use Rattle.layout.specs.Layout.{fits}
+use Rattle.layout.specs.Layout.{fitsOr9}
 use borrow.Author.Needs.{needs}
 use Rattle.layout.proofs.fit.Statement.{statement}
 use Rattle.layout.proofs.fit.Tie as tie
@@ -8,11 +8,11 @@ refuse-requires : tie.Need-refuse-requires
 refuse-requires c κs = search needs
 
 returns : tie.Need-returns
-unfolding fits
+unfolding fitsOr9
 returns c = rw (c .before .if1 .taken, c .refuse .ensures)
 
 returns-2 : tie.Need-returns-2
-unfolding fits
+unfolding fitsOr9
 returns-2 c = rw (c .if1 .left)
 
 pub fit-spec : {M : Type 1} → statement M

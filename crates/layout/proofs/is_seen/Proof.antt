@@ -1,7 +1,7 @@
 -- `layout::is_seen` meets its contract. Assumes nothing.
 use mathlib.Core.Path.{refl}
 use Rattle.layout.specs.Layout.{isSeen}
-use Rattle.layout.proofs.Turns.{unseen}
+use Rattle.layout.proofs.Rows.{unseen}
 use borrow.Author.Needs.{needs}
 use Rattle.layout.proofs.is_seen.Statement.{statement}
 use Rattle.layout.proofs.is_seen.Tie as tie

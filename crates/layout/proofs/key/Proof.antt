@@ -1,6 +1,6 @@
 -- `layout::key` meets its contract. Assumes nothing.
 use Prim.Native.Nat.{_*_}
-use Rattle.layout.proofs.Turns.{key-at}
+use Rattle.layout.proofs.Rows.{key-at}
 use borrow.Author.Needs.{needs}
 use Rattle.layout.proofs.key.Statement.{statement}
 use Rattle.layout.proofs.key.Tie as tie

@@ -8,7 +8,7 @@ use borrow.Author.Needs.{needs}
 use lib.ListN.{drop}
 use Rattle.layout.specs.Layout.{lacks}
 use Rattle.layout.specs.Rows.{rowsOf}
-use Rattle.layout.proofs.Turns.{lacks-none, mark-unseen, mark-seen, lacks-end, lacks-more}
+use Rattle.layout.proofs.Rows.{lacks-none, mark-unseen, mark-seen, lacks-end, lacks-more}
 use Rattle.layout.proofs.lacks_one.Statement.{statement}
 use Rattle.layout.proofs.lacks_one.Tie as tie
 

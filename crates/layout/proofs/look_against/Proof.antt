@@ -3,7 +3,7 @@ use Prim.Native.Nat.{_+_, _*_}
 use native.Mathlib.Omega.{arith}
 use Rattle.layout.specs.Layout.{against}
 use Rattle.layout.specs.Rows.{rowOf}
-use Rattle.layout.proofs.Turns.{NoneTo, row-of, ends-at}
+use Rattle.layout.proofs.Rows.{NoneTo, row-of, ends-at}
 use borrow.Author.Needs.{needs}
 use Rattle.layout.proofs.look_against.Statement.{statement}
 use Rattle.layout.proofs.look_against.Tie as tie

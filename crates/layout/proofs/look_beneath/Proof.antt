@@ -2,7 +2,7 @@
 use Rattle.layout.specs.Layout.{beneath}
 use Rattle.layout.specs.Rows.{rowOf}
 use Rattle.layout.proofs.Laws.{row-at}
-use Rattle.layout.proofs.Turns.{NoneTo, row-of, ends-at}
+use Rattle.layout.proofs.Rows.{NoneTo, row-of, ends-at}
 use borrow.Author.Needs.{needs}
 use Rattle.layout.proofs.look_beneath.Statement.{statement}
 use Rattle.layout.proofs.look_beneath.Tie as tie

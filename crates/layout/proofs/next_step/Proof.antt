@@ -7,7 +7,7 @@ use borrow.Author.Needs.{needs}
 use lib.ListN.{drop}
 use Rattle.layout.specs.Layout.{scan, stepOf}
 use Rattle.layout.specs.Rows.{rowsOf}
-use Rattle.layout.proofs.Turns.{scan-none, scan-stop, scan-more}
+use Rattle.layout.proofs.Rows.{scan-none, scan-stop, scan-more}
 use Rattle.layout.proofs.next_step.Statement.{statement}
 use Rattle.layout.proofs.next_step.Tie as tie
 

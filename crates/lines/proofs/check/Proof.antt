@@ -3,7 +3,7 @@
 use mathlib.Core.Path.{_∙_}
 use native.Mathlib.Omega.{arith}
 use Rattle.lines.specs.Verdicts.{refused}
-use Rattle.lines.proofs.Turns.{size-none, size-long, size-good}
+use Rattle.lines.proofs.Scans.{size-none, size-long, size-good}
 use Rattle.lines.proofs.check.Statement.{statement}
 use Rattle.lines.proofs.check.Tie as tie
 

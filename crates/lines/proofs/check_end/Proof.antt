@@ -1,6 +1,6 @@
 -- `lines::check_end` meets its contract. Assumes nothing.
 use Rattle.lines.specs.Verdicts.{refused, pass}
-use Rattle.lines.proofs.Turns.{closed-none, closed-early, closed-open, closed-good}
+use Rattle.lines.proofs.Scans.{closed-none, closed-early, closed-open, closed-good}
 use borrow.Author.Needs.{needs}
 use Rattle.lines.proofs.check_end.Statement.{statement}
 use Rattle.lines.proofs.check_end.Tie as tie

@@ -9,7 +9,7 @@ use borrow.Author.Needs.{needs}
 use mathlib.Core.List.{List}
 use Rattle.text.proofs.Laws.{rest-of}
 use Rattle.lines.specs.Verdicts.{refused}
-use Rattle.lines.proofs.Turns.{left, left-all, left-none, Turn, turn}
+use Rattle.lines.proofs.Scans.{left, left-all, left-none, Turn, turn}
 use Rattle.lines.proofs.check_lines.Statement.{statement}
 use Rattle.lines.proofs.check_lines.Tie as tie
 

@@ -1,7 +1,7 @@
 -- `lines::ending` meets its contract. Assumes nothing.
 use mathlib.Core.Path.{_∙_, sym}
 use Rattle.text.specs.Bytes.{bytes}
-use Rattle.lines.proofs.Turns.{ending-none, ending-lf, ending-crlf, ending-other}
+use Rattle.lines.proofs.Scans.{ending-none, ending-lf, ending-crlf, ending-other}
 use borrow.Author.Needs.{needs}
 use Rattle.lines.proofs.ending.Statement.{statement}
 use Rattle.lines.proofs.ending.Tie as tie

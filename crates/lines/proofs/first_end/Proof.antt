@@ -1,7 +1,7 @@
 -- `lines::first_end` meets its contract. Assumes nothing.
 use mathlib.Core.Path.{_∙_, sym}
 use Rattle.text.specs.Bytes.{bytes}
-use Rattle.lines.proofs.Turns.{first-known, first-here, first-none}
+use Rattle.lines.proofs.Scans.{first-known, first-here, first-none}
 use borrow.Author.Needs.{needs}
 use Rattle.lines.proofs.first_end.Statement.{statement}
 use Rattle.lines.proofs.first_end.Tie as tie

@@ -1,6 +1,6 @@
 -- `lines::line_at` meets its contract. Assumes nothing.
 use native.Mathlib.Omega.{arith}
-use Rattle.lines.proofs.Turns.{line-none, raw-length, line-short, line-more, line-last}
+use Rattle.lines.proofs.Scans.{line-none, raw-length, line-short, line-more, line-last}
 use borrow.Author.Needs.{needs}
 use Rattle.lines.proofs.line_at.Statement.{statement}
 use Rattle.lines.proofs.line_at.Tie as tie

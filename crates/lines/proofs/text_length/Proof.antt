@@ -3,7 +3,7 @@
 use Prim.Native.Nat.{_-_, _≤_}
 use native.Mathlib.Omega.{arith}
 use lib.ListN.{length}
-use Rattle.lines.proofs.Turns.{Prints, text-low, text-high, text-more, text-done}
+use Rattle.lines.proofs.Scans.{Prints, text-low, text-high, text-more, text-done}
 use Rattle.lines.proofs.text_length.Statement.{statement}
 use Rattle.lines.proofs.text_length.Tie as tie
 

@@ -1,5 +1,5 @@
 -- `lines::without_cr` meets its contract. Assumes nothing.
-use Rattle.lines.proofs.Turns.{cr-none, cr-last, cr-other}
+use Rattle.lines.proofs.Scans.{cr-none, cr-last, cr-other}
 use borrow.Author.Needs.{needs}
 use Rattle.lines.proofs.without_cr.Statement.{statement}
 use Rattle.lines.proofs.without_cr.Tie as tie

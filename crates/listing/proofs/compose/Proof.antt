@@ -2,7 +2,7 @@
 use mathlib.Core.List.{[], _∷_}
 use Rattle.text.specs.Bytes.{bytes}
 use Rattle.fill.proofs.Runs.{one, then}
-use Rattle.listing.specs.Walks.{partsOf}
+use Rattle.listing.specs.Composed.{partsOf}
 use Rattle.listing.proofs.Laws.{Short, row-short}
 use borrow.Author.Needs.{needs}
 use Rattle.listing.proofs.compose.Statement.{statement}

@@ -2,7 +2,7 @@
 use mathlib.Core.Path.{_≡_, _∙_}
 use lib.ListN.{length}
 use Rattle.packed.specs.Packed.{packedOf}
-use Rattle.packed.proofs.Turns.{packed-is}
+use Rattle.packed.proofs.Bytes.{packed-is}
 use borrow.Author.Needs.{needs}
 use Rattle.packed.proofs.pack.Statement.{statement}
 use Rattle.packed.proofs.pack.Tie as tie

@@ -8,7 +8,7 @@ use borrow.Author.Needs.{needs}
 use Rattle.text.specs.Bytes.{bytes}
 use Rattle.lines.proofs.Laws.{Located, located}
 use Rattle.pieces.specs.Pieces.{pieceOf}
-use Rattle.pieces.proofs.Turns.{piece-stop, piece-more, piece-none}
+use Rattle.pieces.proofs.Lines.{piece-stop, piece-more, piece-none}
 use Rattle.pieces.proofs.piece_end.Statement.{statement}
 use Rattle.pieces.proofs.piece_end.Tie as tie
 

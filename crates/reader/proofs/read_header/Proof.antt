@@ -7,7 +7,7 @@ use denote.Ref.{now}
 use Rattle.lines.specs.Verdicts.{refused, pass}
 use Rattle.lines.proofs.Lined.{Lined}
 use Rattle.forms.specs.Slots.{slotAt}
-use Rattle.reader.proofs.Turns.{Kept, begin, over, placed-in, line-in, again}
+use Rattle.reader.proofs.Passes.{Kept, begin, over, placed-in, line-in, again}
 use borrow.Author.Needs.{needs}
 use Rattle.reader.proofs.read_header.Statement.{statement}
 use Rattle.reader.proofs.read_header.Tie as tie

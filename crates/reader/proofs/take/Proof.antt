@@ -1,6 +1,6 @@
 -- `reader::take` meets its contract: the first pass that finds something wrong decides, and else the walk. Assumes nothing.
 use mathlib.Core.Path.{_∙_}
-use Rattle.reader.proofs.Turns.{refused-1, refused-2, refused-3, walked-is}
+use Rattle.reader.proofs.Passes.{refused-1, refused-2, refused-3, walked-is}
 use borrow.Author.Needs.{needs}
 use Rattle.reader.proofs.take.Statement.{statement}
 use Rattle.reader.proofs.take.Tie as tie

@@ -8,7 +8,7 @@ use borrow.Author.Needs.{needs}
 use denote.Ref.{now}
 use Rattle.lines.proofs.Laws.{Located, located}
 use Rattle.layout.specs.Rows.{rowsOf}
-use Rattle.search.proofs.Turns.{Kept, begin, over, width-in, refusal, found-is, again}
+use Rattle.search.proofs.Lines.{Kept, begin, over, width-in, refusal, found-is, again}
 use Rattle.search.proofs.find.Statement.{statement}
 use Rattle.search.proofs.find.Tie as tie
 

@@ -1,6 +1,6 @@
 -- `search::rest_of` meets its contract. Assumes nothing.
 use borrow.Author.Needs.{needs}
-use Rattle.search.proofs.Turns.{rest-none, rest-some}
+use Rattle.search.proofs.Lines.{rest-none, rest-some}
 use Rattle.search.proofs.rest_of.Statement.{statement}
 use Rattle.search.proofs.rest_of.Tie as tie
 

@@ -6,7 +6,7 @@ use lib.ListN.{length, drop}
 use native.Mathlib.Omega.{arith}
 use borrow.Author.Needs.{needs}
 use Rattle.text.specs.Bytes.{begins}
-use Rattle.text.proofs.Turns.{begins-short, begins-stop, begins-more, begins-done}
+use Rattle.text.proofs.Scans.{begins-short, begins-stop, begins-more, begins-done}
 use Rattle.text.proofs.begins_with.Statement.{statement}
 use Rattle.text.proofs.begins_with.Tie as tie
 

@@ -1,6 +1,6 @@
 -- `text::equals` meets its contract. Assumes nothing.
 use mathlib.Core.Path.{_∙_}
-use Rattle.text.proofs.Turns.{same-long, same-short}
+use Rattle.text.proofs.Scans.{same-long, same-short}
 use borrow.Author.Needs.{needs}
 use Rattle.text.proofs.equals.Statement.{statement}
 use Rattle.text.proofs.equals.Tie as tie

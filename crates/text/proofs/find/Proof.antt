@@ -6,7 +6,7 @@ use lib.ListN.{length, drop}
 use native.Mathlib.Omega.{arith}
 use borrow.Author.Needs.{needs}
 use Rattle.text.specs.Bytes.{before}
-use Rattle.text.proofs.Turns.{find-here, find-more, find-none}
+use Rattle.text.proofs.Scans.{find-here, find-more, find-none}
 use Rattle.text.proofs.find.Statement.{statement}
 use Rattle.text.proofs.find.Tie as tie
 

@@ -8,7 +8,7 @@ use lib.ListN.{length}
 use lib.Seq.{paste}
 use native.Mathlib.Omega.{arith}
 use borrow.Author.Needs.{needs}
-use Rattle.text.proofs.Turns.{put-none, put-more, put-done}
+use Rattle.text.proofs.Scans.{put-none, put-more, put-done}
 use Rattle.text.proofs.put.Statement.{statement}
 use Rattle.text.proofs.put.Tie as tie
 

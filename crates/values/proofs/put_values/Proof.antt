@@ -1,9 +1,9 @@
 -- `values::put_values` meets its contract: the blocks put the values of all slots. Assumes nothing.
 use Prim.Native.Nat.{_≤_}
 use mathlib.Core.Path.{_≡_, refl, sym, ap, _∙_}
-use mathlib.Core.List.{[], _∷_}
+use mathlib.Core.List.{[], _∷_, flatten}
 use lib.ListN.{length, set, length-set}
-use Rattle.fill.specs.Runs.{overRun, flat}
+use Rattle.fill.specs.Runs.{overRun}
 use Rattle.fill.proofs.Runs.{length-run}
 use Rattle.values.specs.Values.{values}
 use Rattle.values.specs.Places.{ends}
@@ -67,7 +67,7 @@ start c = general c .before .before .before .before
 
 put : (c : tie.After-slice-known7) → (header c .put-header .last .0 ≡ overRun (start c .args .text .now) 0 (values (start c .args .trade)))
     × (header c .put-header .last .1 .0 ≡ 0 ∷ ends (start c .args .text .now) 0 (values (start c .args .trade)))
-    × (length (flat (values (start c .args .trade))) ≤ 398)
+    × (length (flatten (values (start c .args .trade))) ≤ 398)
 unfolding values
 put c =
     let a = start c .args in

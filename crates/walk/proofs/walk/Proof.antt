@@ -9,7 +9,7 @@ use Rattle.lines.specs.Verdicts.{refused, pass}
 use Rattle.lines.proofs.Laws.{Located, located}
 use Rattle.layout.specs.Rows.{rowsOf}
 use Rattle.forms.specs.Slots.{slotAt}
-use Rattle.walk.proofs.Turns.{Kept, begin, width-in, refusal, again, over}
+use Rattle.walk.proofs.Lines.{Kept, begin, width-in, refusal, again, over}
 use Rattle.walk.proofs.walk.Statement.{statement}
 use Rattle.walk.proofs.walk.Tie as tie
 

@@ -4,7 +4,7 @@ use Prim.Native.Nat.{_-_}
 use lib.ListN.{length}
 use Rattle.stretches.specs.Stretches.{stretchOf}
 use Rattle.forms.specs.Slots.{slotAt}
-use Rattle.writer.proofs.Turns.{Same, begin, again, done}
+use Rattle.writer.proofs.Header.{Same, begin, again, done}
 use borrow.Author.Needs.{needs}
 use Rattle.writer.proofs.put_header.Statement.{statement}
 use Rattle.writer.proofs.put_header.Tie as tie

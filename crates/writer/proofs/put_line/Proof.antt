@@ -1,6 +1,6 @@
 -- `writer::put_line` meets its contract. Assumes nothing.
 use Rattle.text.specs.Bytes.{bytes}
-use Rattle.writer.proofs.Turns.{line-put}
+use Rattle.writer.proofs.Header.{line-put}
 use borrow.Author.Needs.{needs}
 use Rattle.writer.proofs.put_line.Statement.{statement}
 use Rattle.writer.proofs.put_line.Tie as tie

@@ -1,6 +1,6 @@
 -- `writer::put_message` meets its contract. Assumes nothing.
 use Rattle.fill.specs.Filling.{lent}
-use Rattle.writer.proofs.Turns.{both}
+use Rattle.writer.proofs.Header.{both}
 use borrow.Author.Needs.{needs}
 use Rattle.writer.proofs.put_message.Statement.{statement}
 use Rattle.writer.proofs.put_message.Tie as tie

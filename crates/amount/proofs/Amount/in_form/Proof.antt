@@ -1,7 +1,7 @@
 -- `amount::Amount::in_form` meets its contract. Assumes nothing.
 use borrow.Author.Tests.{le-leb, lt-leb, eq-eqb, ne-eqb}
 use Rattle.amount.specs.Amounts.{inForm}
-use Rattle.amount.proofs.Turns.{not-large, large}
+use Rattle.amount.proofs.Noughts.{not-large, large}
 use Rattle.amount.proofs.Amount.in_form.Statement.{statement}
 use Rattle.amount.proofs.Amount.in_form.Tie as tie
 

@@ -8,7 +8,7 @@ use borrow.Author.Tests.{not-true, not-false}
 use Rattle.text.proofs.Laws.{rest-of}
 use Rattle.amount.specs.Amounts.{inForm}
 use Rattle.amount.proofs.Laws.{few-decimals}
-use Rattle.amount.proofs.Turns.{text-none, line-length, lead-within, text-line}
+use Rattle.amount.proofs.Noughts.{text-none, line-length, lead-within, text-line}
 use borrow.Author.Needs.{needs}
 use Rattle.amount.proofs.Amount.put.Statement.{statement}
 use Rattle.amount.proofs.Amount.put.Tie as tie

@@ -6,7 +6,7 @@ use native.Mathlib.Omega.{arith}
 use denote.Ref.{now}
 use Rattle.text.proofs.Laws.{rest-of}
 use Rattle.amount.specs.Amounts.{whole}
-use Rattle.amount.proofs.Turns.{too-long, no-comma, no-whole, behind, few, parts-are}
+use Rattle.amount.proofs.Noughts.{too-long, no-comma, no-whole, behind, few, parts-are}
 use borrow.Author.Needs.{needs}
 use Rattle.amount.proofs.Amount.read.Statement.{statement}
 use Rattle.amount.proofs.Amount.read.Tie as tie

@@ -1,5 +1,5 @@
 -- `fill::parts::either` meets its contract. Assumes nothing.
-use Rattle.fill.proofs.Turns.{either-is}
+use Rattle.fill.proofs.Rows.{either-is}
 use Rattle.fill.proofs.parts.either.Statement.{statement}
 use Rattle.fill.proofs.parts.either.Tie as tie
 

@@ -3,7 +3,7 @@ use mathlib.Core.Path.{sym, _∙_}
 use mathlib.Core.Bool.{and-true, and-false}
 use borrow.Author.Tests.{eq-eqb, ne-eqb}
 use Rattle.fill.specs.Filling.{isAny}
-use Rattle.fill.proofs.Turns.{found}
+use Rattle.fill.proofs.Rows.{found}
 use borrow.Author.Needs.{needs}
 use Rattle.fill.proofs.parts.is_absent.Statement.{statement}
 use Rattle.fill.proofs.parts.is_absent.Tie as tie

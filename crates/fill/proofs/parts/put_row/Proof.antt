@@ -2,7 +2,7 @@
 use mathlib.Core.Path.{sym, _∙_}
 use borrow.Author.Tests.{eq-eqb, ne-eqb}
 use Rattle.fill.proofs.Runs.{none-run}
-use Rattle.fill.proofs.Turns.{puts-by}
+use Rattle.fill.proofs.Rows.{puts-by}
 use borrow.Author.Needs.{needs}
 use Rattle.fill.proofs.parts.put_row.Statement.{statement}
 use Rattle.fill.proofs.parts.put_row.Tie as tie

@@ -5,7 +5,7 @@ use native.Mathlib.Omega.{arith}
 use lib.ListN.{drop}
 use Rattle.layout.specs.Rows.{rowsOf}
 use Rattle.fill.specs.Filling.{lent, behindAt, anyRows}
-use Rattle.fill.proofs.Turns.{any-shut, any-end, any-found, any-more, deep-more}
+use Rattle.fill.proofs.Rows.{any-shut, any-end, any-found, any-more, deep-more}
 use borrow.Author.Needs.{needs}
 use Rattle.fill.proofs.standing.any_value.Statement.{statement}
 use Rattle.fill.proofs.standing.any_value.Tie as tie

@@ -4,7 +4,7 @@ use native.Mathlib.Numerals.{add-one}
 use borrow.Author.Tests.{ne-eqb}
 use Rattle.layout.specs.Rows.{rowOf}
 use Rattle.fill.specs.Filling.{deeper}
-use Rattle.fill.proofs.Turns.{deeper-by}
+use Rattle.fill.proofs.Rows.{deeper-by}
 use borrow.Author.Needs.{needs}
 use Rattle.fill.proofs.standing.deeper.Statement.{statement}
 use Rattle.fill.proofs.standing.deeper.Tie as tie

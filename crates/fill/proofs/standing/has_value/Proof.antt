@@ -2,7 +2,7 @@
 use mathlib.Core.Path.{sym, _∙_}
 use mathlib.Core.List.{[]}
 use borrow.Author.Tests.{eq-eqb, ne-eqb}
-use Rattle.fill.proofs.Turns.{has-by}
+use Rattle.fill.proofs.Rows.{has-by}
 use borrow.Author.Needs.{needs}
 use Rattle.fill.proofs.standing.has_value.Statement.{statement}
 use Rattle.fill.proofs.standing.has_value.Tie as tie

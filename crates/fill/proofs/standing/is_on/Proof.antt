@@ -1,6 +1,6 @@
 -- `fill::standing::is_on` meets its contract. Assumes nothing.
 use borrow.Author.Tests.{eq-eqb, ne-eqb}
-use Rattle.fill.specs.Walks.{isOn}
+use Rattle.fill.specs.Steps.{isOn}
 use borrow.Author.Needs.{needs}
 use Rattle.fill.proofs.standing.is_on.Statement.{statement}
 use Rattle.fill.proofs.standing.is_on.Tie as tie

@@ -1,7 +1,7 @@
 -- `fill::standing::is_there` meets its contract. Assumes nothing.
 use lib.ListN.{length}
-use Rattle.fill.specs.Filling.{frontOf}
-use Rattle.fill.proofs.Turns.{value-there, front-there}
+use Rattle.fill.specs.Filling.{fixedIn}
+use Rattle.fill.proofs.Rows.{value-there, front-there}
 use borrow.Author.Needs.{needs}
 use Rattle.fill.proofs.standing.is_there.Statement.{statement}
 use Rattle.fill.proofs.standing.is_there.Tie as tie
@@ -13,7 +13,7 @@ returns : tie.Need-returns
 returns c =
     let a = c .before .before .before .before .before .before .before .args in
     let v = c .before .value-of .result .now in
-    rw (← c .before .value-of .ensures) (value-there (frontOf (a .slots .now) (a .optional .now) (a .slot) (length v)) v (c .if1 .taken))
+    rw (← c .before .value-of .ensures) (value-there (fixedIn (a .slots .now) (a .optional .now) (a .slot) (length v)) v (c .if1 .taken))
 
 front-requires : tie.Need-front-requires
 front-requires c κs = search needs

@@ -1,5 +1,5 @@
 -- `fill::standing::lower` meets its contract. Assumes nothing.
-use Rattle.fill.proofs.Turns.{lower-is}
+use Rattle.fill.proofs.Rows.{lower-is}
 use Rattle.fill.specs.Filling.{lower}
 use borrow.Author.Needs.{needs}
 use Rattle.fill.proofs.standing.lower.Statement.{statement}

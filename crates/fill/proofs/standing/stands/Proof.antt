@@ -2,7 +2,7 @@
 use mathlib.Core.Path.{sym, _∙_}
 use mathlib.Core.List.{[]}
 use borrow.Author.Tests.{eq-eqb, ne-eqb}
-use Rattle.fill.proofs.Turns.{stands-by}
+use Rattle.fill.proofs.Rows.{stands-by}
 use borrow.Author.Needs.{needs}
 use Rattle.fill.proofs.standing.stands.Statement.{statement}
 use Rattle.fill.proofs.standing.stands.Tie as tie

@@ -1,6 +1,6 @@
 -- `forms::narrative::from` meets its contract. Assumes nothing.
 use denote.Ref.{now}
-use Rattle.forms.proofs.Turns.{none-left}
+use Rattle.forms.proofs.Parts.{none-left}
 use mathlib.Core.Path.{refl}
 use Rattle.text.proofs.Laws.{rest-of}
 use borrow.Author.Needs.{needs}

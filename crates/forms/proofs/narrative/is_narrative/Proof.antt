@@ -3,7 +3,7 @@ use mathlib.Core.Path.{sym, _∙_}
 use borrow.Author.Tests.{not-true, not-false}
 use Rattle.text.specs.Bytes.{bytes}
 use Rattle.forms.specs.Narrative.{isNarrative}
-use Rattle.forms.proofs.Turns.{service-none, service-one}
+use Rattle.forms.proofs.Parts.{service-none, service-one}
 use borrow.Author.Needs.{needs}
 use Rattle.forms.proofs.narrative.is_narrative.Statement.{statement}
 use Rattle.forms.proofs.narrative.is_narrative.Tie as tie

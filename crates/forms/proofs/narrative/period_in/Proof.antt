@@ -1,5 +1,5 @@
 -- `forms::narrative::period_in` meets its contract. Assumes nothing.
-use Rattle.forms.proofs.Turns.{period-at, no-period}
+use Rattle.forms.proofs.Parts.{period-at, no-period}
 use borrow.Author.Needs.{needs}
 use Rattle.forms.proofs.narrative.period_in.Statement.{statement}
 use Rattle.forms.proofs.narrative.period_in.Tie as tie

@@ -2,7 +2,7 @@
 use denote.Ref.{now}
 use mathlib.Core.Path.{sym}
 use lib.Seq.{length-take-le}
-use Rattle.forms.proofs.Turns.{short-word, whole-word}
+use Rattle.forms.proofs.Parts.{short-word, whole-word}
 use borrow.Author.Needs.{needs}
 use Rattle.forms.proofs.narrative.service_in.Statement.{statement}
 use Rattle.forms.proofs.narrative.service_in.Tie as tie

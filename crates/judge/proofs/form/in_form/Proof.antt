@@ -1,6 +1,6 @@
 -- `judge::form::in_form` meets its contract: the stretches are all of the list. Assumes nothing.
 use Rattle.values.specs.Writable.{tests}
-use Rattle.judge.proofs.Turns.{formed}
+use Rattle.judge.proofs.Tests.{formed}
 use borrow.Author.Needs.{needs}
 use Rattle.judge.proofs.form.in_form.Statement.{statement}
 use Rattle.judge.proofs.form.in_form.Tie as tie

@@ -1,6 +1,6 @@
 -- `packed::fields::moment_number` meets its contract. Assumes nothing.
 use native.Mathlib.Omega.{arith}
-use Rattle.packed.proofs.Turns.{moment-in, moment-out}
+use Rattle.packed.proofs.Bytes.{moment-in, moment-out}
 use borrow.Author.Needs.{needs}
 use Rattle.packed.proofs.fields.moment_number.Statement.{statement}
 use Rattle.packed.proofs.fields.moment_number.Tie as tie

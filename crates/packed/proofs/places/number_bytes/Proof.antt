@@ -6,7 +6,7 @@ use mathlib.Core.Path.{_≡_, refl}
 use mathlib.Core.List.{_++_}
 use lib.ListN.{length, take, length-set}
 use Rattle.packed.specs.Packed.{numberBytes}
-use Rattle.packed.proofs.Turns.{bytes-more, bytes-done}
+use Rattle.packed.proofs.Bytes.{bytes-more, bytes-done}
 use Rattle.packed.proofs.places.number_bytes.Statement.{statement}
 use Rattle.packed.proofs.places.number_bytes.Tie as tie
 

@@ -5,7 +5,7 @@ use mathlib.Core.Path.{_≡_, _∙_}
 use lib.ListN.{length}
 use Rattle.packed.specs.Packed.{textBytes}
 use Rattle.packed.proofs.Laws.{at-most-le}
-use Rattle.packed.proofs.Turns.{text-place}
+use Rattle.packed.proofs.Bytes.{text-place}
 use borrow.Author.Needs.{needs}
 use Rattle.packed.proofs.places.text_bytes.Statement.{statement}
 use Rattle.packed.proofs.places.text_bytes.Tie as tie

@@ -1,6 +1,6 @@
 -- `text::Text::of` meets its contract. Assumes nothing.
 use native.Mathlib.Omega.{arith}
-use Rattle.text.proofs.Turns.{text-of, no-text}
+use Rattle.text.proofs.Scans.{text-of, no-text}
 use borrow.Author.Needs.{needs}
 use Rattle.text.proofs.Text.of.Statement.{statement}
 use Rattle.text.proofs.Text.of.Tie as tie

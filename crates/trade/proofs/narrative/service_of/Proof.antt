@@ -1,5 +1,5 @@
 -- `trade::narrative::service_of` meets its contract. Assumes nothing.
-use Rattle.trade.proofs.Turns.{service-is, service-else}
+use Rattle.trade.proofs.CodeWords.{service-is, service-else}
 use borrow.Author.Needs.{needs}
 use Rattle.trade.proofs.narrative.service_of.Statement.{statement}
 use Rattle.trade.proofs.narrative.service_of.Tie as tie

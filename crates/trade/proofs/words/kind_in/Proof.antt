@@ -1,6 +1,6 @@
 -- `trade::words::kind_in` meets its contract. Assumes nothing.
 use Rattle.text.specs.Bytes.{bytes}
-use Rattle.trade.proofs.Turns.{kind-is, kind-else}
+use Rattle.trade.proofs.CodeWords.{kind-is, kind-else}
 use borrow.Author.Needs.{needs}
 use Rattle.trade.proofs.words.kind_in.Statement.{statement}
 use Rattle.trade.proofs.words.kind_in.Tie as tie

@@ -1,6 +1,6 @@
 -- `trade::words::side_in` meets its contract. Assumes nothing.
 use Rattle.text.specs.Bytes.{bytes}
-use Rattle.trade.proofs.Turns.{side-is, side-else}
+use Rattle.trade.proofs.CodeWords.{side-is, side-else}
 use borrow.Author.Needs.{needs}
 use Rattle.trade.proofs.words.side_in.Statement.{statement}
 use Rattle.trade.proofs.words.side_in.Tie as tie

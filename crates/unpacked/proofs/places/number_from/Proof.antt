@@ -6,7 +6,7 @@ use mathlib.Core.Path.{_≡_, refl}
 use lib.ListN.{length, drop, drop-of-length-le}
 use lib.Dec.{lit<}
 use Rattle.unpacked.specs.Unpacked.{numberFrom}
-use Rattle.unpacked.proofs.Turns.{from-none, from-more, from-small, from-fits}
+use Rattle.unpacked.proofs.Bytes.{from-none, from-more, from-small, from-fits}
 use Rattle.unpacked.proofs.places.number_from.Statement.{statement}
 use Rattle.unpacked.proofs.places.number_from.Tie as tie
 

@@ -4,7 +4,7 @@ use native.Mathlib.Omega.{arith}
 use Prim.Native.Nat.{_-_}
 use mathlib.Core.Path.{refl}
 use Rattle.unpacked.specs.Unpacked.{numberFrom, numbersIn}
-use Rattle.unpacked.proofs.Turns.{Read, part-long, read-more, read-done}
+use Rattle.unpacked.proofs.Bytes.{Read, part-long, read-more, read-done}
 use Rattle.unpacked.proofs.places.numbers_in.Statement.{statement}
 use Rattle.unpacked.proofs.places.numbers_in.Tie as tie
 

@@ -1,6 +1,6 @@
 -- `unpacked::places::text_from` meets its contract. Assumes nothing.
 use Rattle.unpacked.specs.Unpacked.{textFrom}
-use Rattle.unpacked.proofs.Turns.{text-taken}
+use Rattle.unpacked.proofs.Bytes.{text-taken}
 use mathlib.Core.Path.{refl}
 use borrow.Author.Needs.{needs}
 use Rattle.unpacked.proofs.places.text_from.Statement.{statement}

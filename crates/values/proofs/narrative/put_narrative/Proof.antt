@@ -6,7 +6,7 @@ use lib.ListN.{length, take, length-take}
 use Rattle.text.specs.Bytes.{bytes}
 use Rattle.values.specs.Values.{reasonText, narrative}
 use Rattle.values.proofs.Narratives.{period-short}
-use Rattle.values.proofs.Turns.{service-long, reason-short, behind-word, behind-period, behind-reason, whole, narrative-is}
+use Rattle.values.proofs.Widths.{service-long, reason-short, behind-word, behind-period, behind-reason, whole, narrative-is}
 use borrow.Author.Needs.{needs}
 use Rattle.values.proofs.narrative.put_narrative.Statement.{statement}
 use Rattle.values.proofs.narrative.put_narrative.Tie as tie

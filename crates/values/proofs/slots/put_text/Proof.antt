@@ -1,7 +1,7 @@
 -- `values::slots::put_text` meets its contract. Assumes nothing.
 use mathlib.Core.Path.{_≡_}
 use lib.ListN.{length}
-use Rattle.values.proofs.Turns.{contents-short}
+use Rattle.values.proofs.Widths.{contents-short}
 use borrow.Author.Needs.{needs}
 use Rattle.values.proofs.slots.put_text.Statement.{statement}
 use Rattle.values.proofs.slots.put_text.Tie as tie

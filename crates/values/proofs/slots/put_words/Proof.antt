@@ -1,7 +1,7 @@
 -- `values::slots::put_words` meets its contract. Assumes nothing.
 use mathlib.Core.List.{[], _∷_}
 use Rattle.values.proofs.Places.{kept, behind, stored}
-use Rattle.values.proofs.Turns.{word-most, side-four, kind-four}
+use Rattle.values.proofs.Widths.{word-most, side-four, kind-four}
 use borrow.Author.Needs.{needs}
 use Rattle.values.proofs.slots.put_words.Statement.{statement}
 use Rattle.values.proofs.slots.put_words.Tie as tie

@@ -17,7 +17,7 @@ use Rattle.lines.specs.Verdicts.{refused, pass}
 use Rattle.lines.specs.Lines.{linesOf}
 use Rattle.lines.proofs.Laws.{Located, lines-behind}
 use Rattle.blocks.specs.Blocks.{isTagged, nameOf, named, roleOf, goes, stops, ending, opening, closing, turn, follow, nest, nestPass}
-use Rattle.blocks.specs.Walks.{around, leaves, OfItems, OfBlock}
+use Rattle.blocks.specs.Mutual.{around, leaves, OfItems, OfBlock}
 use Rattle.blocks.specs.declared.Role.{Role}
 use Rattle.blocks.specs.declared.Role.the-variants.{End, Opens, Closes, Field, Wrong}
 use Rattle.blocks.specs.declared.Walk.{Walk}

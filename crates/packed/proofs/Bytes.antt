@@ -3,7 +3,7 @@
 use Prim.Native.Nat.{ℕ, suc, _+_, _-_, _*_, _/_, _%_, _≤_, _<_}
 use mathlib.Core.Path.{_≡_, refl, sym, ap, _∙_}
 use mathlib.Core.Bool.{true}
-use mathlib.Core.List.{List, [], _∷_, _++_, map, append-assoc, append-nil}
+use mathlib.Core.List.{List, [], _∷_, _++_, map, append-assoc, append-nil, flatten}
 use native.Mathlib.Nat.{zero-mul, suc-mul, mul-le-mul-right}
 use native.Mathlib.Numerals.{add-one}
 use native.Mathlib.Omega.{arith}
@@ -13,20 +13,20 @@ use lib.Seq.{take-suc, take-suc-set, take-at, take-all}
 use borrow.Author.Tests.{le-leb}
 use Rattle.text.specs.Copy.{over, fits, placed}
 use Rattle.text.proofs.Laws.{placed-all, length-placed}
-use Rattle.fill.proofs.Runs.{Put, two}
+use Rattle.fill.proofs.Runs.{flat-append, Put, two}
 use Rattle.calendar.specs.declared.Moment.{Moment}
 use Rattle.packed.proofs.Laws.{at-most-in, at-most-out}
-use Rattle.packed.specs.Packed.{atMost, momentNumber, numberBytes, inRow}
+use Rattle.packed.specs.Packed.{atMost, momentPacked, numberBytes}
 
 -- ---- a date and time
 
 module _ (m : Moment) (time : ℕ) (e : time ≡ atMost 999999 (m .time .0)) where
-  pub moment-in : m .date .0 * 1000000 + time ≤ 18446744073709551615 → m .date .0 * 1000000 + time ≡ momentNumber m
-  unfolding momentNumber
+  pub moment-in : m .date .0 * 1000000 + time ≤ 18446744073709551615 → m .date .0 * 1000000 + time ≡ momentPacked m
+  unfolding momentPacked
   moment-in h = rw (← e) (sym (at-most-in 18446744073709551615 (m .date .0 * 1000000 + time) h))
 
-  pub moment-out : 18446744073709551615 < m .date .0 * 1000000 + time → 18446744073709551615 ≡ momentNumber m
-  unfolding momentNumber
+  pub moment-out : 18446744073709551615 < m .date .0 * 1000000 + time → 18446744073709551615 ≡ momentPacked m
+  unfolding momentPacked
   moment-out h = rw (← e) (sym (at-most-out 18446744073709551615 (m .date .0 * 1000000 + time) h))
 
 -- ---- the bytes of a number
@@ -51,23 +51,18 @@ bytes-done place i rest number h l e =
 
 -- ---- places in a row
 
-row-append : (ss ts : List (List ℕ)) → inRow (ss ++ ts) ≡ inRow ss ++ inRow ts
-unfolding inRow
-row-append [] ts = refl
-row-append (s ∷ ss) ts = rw (row-append ss ts) (sym (append-assoc s (inRow ss) (inRow ts)))
-
 -- `count` places, of so many bytes each, put one by one: the first i of them stand in front
 module _ {A : Type 0} (f : A → List ℕ) (width count : ℕ) (l : List A) where
   abbrev pub Laid : List ℕ → ℕ → Type 0
-  Laid row i = (i ≤ count) × (length row ≡ count * width) × (take (i * width) row ≡ inRow (take i (map f l)))
+  Laid row i = (i ≤ count) × (length row ≡ count * width) × (take (i * width) row ≡ flatten (take i (map f l)))
 
   pub laid-none : (row : List ℕ) → length row ≡ count * width → Laid row 0
-  unfolding inRow
+  unfolding flatten
   laid-none row n = (omega arith, n, rw zero-mul)
 
   pub laid-more : (row : List ℕ) (i : ℕ) (d : A) (s now : List ℕ) → Laid row i → i < count → length l ≡ count → s ≡ f (getD l i d) → length s ≡ width
       → now ≡ placed row (i * width) s → Laid now (i + 1)
-  unfolding inRow placed fits over
+  unfolding flatten placed fits over
   laid-more row i d s now e h n g m p =
       let at : ℕ = i * width in
       let ss : List (List ℕ) = map f l in
@@ -78,16 +73,16 @@ module _ {A : Type 0} (f : A → List ℕ) (width count : ℕ) (l : List A) wher
       let t : leb (at + length s) (length row) ≡ true = le-leb (at + length s) (length row) (omega arith) in
       let j : now ≡ (take at row ++ s) ++ drop (at + length s) row = p ∙ rw t (sym (append-assoc (take at row) s _)) in
       let z : length (take at row ++ s) ≡ at + width = rw (length-append, length-take) (omega arith) in
-      let q : inRow (take (suc i) ss) ≡ inRow (take i ss) ++ s =
-      ap inRow (take-suc ss i (f d) k) ∙ row-append (take i ss) _ ∙ ap (λ (x : List ℕ). inRow (take i ss) ++ x) (append-nil (getD ss i (f d)) ∙ List·getD-map f l i d ∙ sym g)
+      let q : flatten (take (suc i) ss) ≡ flatten (take i ss) ++ s =
+      ap flatten (take-suc ss i (f d) k) ∙ flat-append (take i ss) _ ∙ ap (λ (x : List ℕ). flatten (take i ss) ++ x) (append-nil (getD ss i (f d)) ∙ List·getD-map f l i d ∙ sym g)
       in (omega arith, ap length p ∙ length-placed row at s ∙ o, rw (j, w, take-at (take at row ++ s) _ _ z, add-one, q, e .2))
 
-  pub laid-done : (row : List ℕ) (i : ℕ) → Laid row i → count ≤ i → length l ≡ count → row ≡ inRow (map f l)
+  pub laid-done : (row : List ℕ) (i : ℕ) → Laid row i → count ≤ i → length l ≡ count → row ≡ flatten (map f l)
   laid-done row i e h n =
       let o = e .1 in
       let m = length-map l f in
       let w : count * width ≤ i * width = mul-le-mul-right width h in
-      sym (take-all (i * width) row (omega arith)) ∙ e .2 ∙ ap inRow (take-all i (map f l) (omega arith))
+      sym (take-all (i * width) row (omega arith)) ∙ e .2 ∙ ap flatten (take-all i (map f l) (omega arith))
 
 -- ---- the place of a text
 

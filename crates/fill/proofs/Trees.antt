@@ -3,16 +3,15 @@
 use Prim.Native.Nat.{ℕ, zero, suc}
 use mathlib.Core.Path.{_≡_, refl, sym, ap, _∙_}
 use mathlib.Core.Bool.{Bool, true, false, _||_, cond, or-assoc, or-false}
-use mathlib.Core.List.{List, [], _∷_, _++_, append-assoc, append-nil}
+use mathlib.Core.List.{List, [], _∷_, _++_, append-assoc, append-nil, flatten}
 use Rattle.text.specs.Bytes.{bytes}
 use Rattle.lines.specs.Lines.{joined}
 use Rattle.layout.specs.Rows.{Row, field, mark, back, textAt, rowsOf}
 use Rattle.sheets.specs.Trees.{Field, Member, Tree, last, line, block, group, fieldRows, memberRows, rowsIn, tableOf}
-use Rattle.sheets.specs.Sheets.{Entry, edge, held, lineOf, linesIn}
+use Rattle.sheets.specs.Sheets.{Entry, edge, item, lineOf, linesIn}
 use Rattle.sheets.specs.Filled.{some, anyField, anyMember, anyIn, filledFields, filledMembers, filled}
 use Rattle.sheets.proofs.Order.{lines-both}
 use Rattle.fill.specs.Filling.{ended, heldParts, lower, deeper, hasValue, anyRows, stands, opener, puts, walk, Lent, frontAt, valueAt, behindAt, partsAt, filling}
-use Rattle.fill.specs.Runs.{flat}
 use Rattle.fill.proofs.Runs.{flat-append}
 
 -- ---- lines joined
@@ -66,7 +65,7 @@ openerIn first (line f t) = openerIn first t
 openerIn first (block m o t u) = openerIn (openerIn first t) u
 openerIn first (group n a o c ms t) = openerIn o t
 
-module _ (value : ℕ → List ℕ) (parts : ℕ → List (List ℕ)) (same : (s : ℕ) → flat (parts s) ≡ value s) where
+module _ (value : ℕ → List ℕ) (parts : ℕ → List (List ℕ)) (same : (s : ℕ) → flatten (parts s) ≡ value s) where
   -- ---- what does not stand is passed over
 
   skip-fields : (fs : List Field) (first : List ℕ) (d : ℕ) (rows : List Row) → walk value parts first (suc d) (fieldRows fs rows) ≡ walk value parts first (suc d) rows
@@ -90,17 +89,17 @@ module _ (value : ℕ → List ℕ) (parts : ℕ → List (List ℕ)) (same : (s
   -- ---- what stands is put as its lines
 
   abbrev out : List ℕ → ℕ → List Row → List ℕ
-  out first off rows = flat (walk value parts first off rows)
+  out first off rows = flatten (walk value parts first off rows)
 
-  edge-flat : (o : List ℕ) (rest : List (List ℕ)) → flat (ended o ++ rest) ≡ o ++ (bytes "\r\n" ++ flat rest)
-  unfolding flat
+  edge-flat : (o : List ℕ) (rest : List (List ℕ)) → flatten (ended o ++ rest) ≡ o ++ (bytes "\r\n" ++ flatten rest)
+  unfolding flatten
   edge-flat o rest = refl
 
-  held-flat : (s : ℕ) (k : List ℕ) (rest : List (List ℕ)) → flat (heldParts parts s k ++ rest) ≡ (k ++ value s) ++ (bytes "\r\n" ++ flat rest)
-  unfolding flat
+  held-flat : (s : ℕ) (k : List ℕ) (rest : List (List ℕ)) → flatten (heldParts parts s k ++ rest) ≡ (k ++ value s) ++ (bytes "\r\n" ++ flatten rest)
+  unfolding flatten
   held-flat s k rest =
       rw (append-assoc (parts s) (bytes "\r\n" ∷ []) rest, flat-append (parts s) (bytes "\r\n" ∷ rest), same s)
-      (sym (append-assoc k (value s) (bytes "\r\n" ++ flat rest)))
+      (sym (append-assoc k (value s) (bytes "\r\n" ++ flatten rest)))
 
   -- a field's row, where a block that holds it is written
   line-out : (m : Bool) (s : ℕ) (k first : List ℕ) (rows : List Row)
@@ -108,14 +107,14 @@ module _ (value : ℕ → List ℕ) (parts : ℕ → List (List ℕ)) (same : (s
   unfolding walk stands opener puts deeper
   line-out m s k first rows = go (m || some (value s))
     where
-      go : (b : Bool) → flat (cond b (heldParts parts s k ++ walk value parts first zero rows) (walk value parts first zero rows))
+      go : (b : Bool) → flatten (cond b (heldParts parts s k ++ walk value parts first zero rows) (walk value parts first zero rows))
           ≡ cond b ((k ++ value s) ++ (bytes "\r\n" ++ out first zero rows)) (out first zero rows)
       go true = held-flat s k (walk value parts first zero rows)
       go false = refl
 
   -- the same of the sheet: its line in front of what is left, and other bytes behind
   line-text : (b : Bool) (s : ℕ) (k : List ℕ) (es : List Entry) (rest : List ℕ)
-      → text (cond b (held s k (value s) ∷ es) es) ++ rest ≡ cond b ((k ++ value s) ++ (bytes "\r\n" ++ (text es ++ rest))) (text es ++ rest)
+      → text (cond b (item s k (value s) ∷ es) es) ++ rest ≡ cond b ((k ++ value s) ++ (bytes "\r\n" ++ (text es ++ rest))) (text es ++ rest)
   unfolding joined linesIn lineOf
   line-text true s k es rest = rw (append-assoc (k ++ value s) (bytes "\r\n" ++ text es) rest, append-assoc (bytes "\r\n") (text es) rest)
   line-text false s k es rest = refl
@@ -126,7 +125,7 @@ module _ (value : ℕ → List ℕ) (parts : ℕ → List (List ℕ)) (same : (s
 
   fields-out : (fs : List Field) (c first : List ℕ) (rows : List Row)
       → out first zero (fieldRows fs (back c ∷ rows)) ≡ text (filledFields value fs c) ++ out first zero rows
-  unfolding fieldRows filledFields walk stands opener puts flat joined linesIn
+  unfolding fieldRows filledFields walk stands opener puts flatten joined linesIn
   fields-out [] c first rows = sym (edge-text c [] (out first zero rows))
   fields-out (f ∷ fs) c first rows =
       line-out (f .must) (f .slot) (f .key) first (fieldRows fs (back c ∷ rows))
@@ -135,8 +134,8 @@ module _ (value : ℕ → List ℕ) (parts : ℕ → List (List ℕ)) (same : (s
   -- one of many blocks, where those behind it are put
   member-out : (m : Member) (c first : List ℕ) (rows : List Row) (ds : List Entry) (rest : List ℕ) → out first zero rows ≡ text ds ++ rest
       → out first zero (mark (m .slot) (m .key) ∷ fieldRows (m .inside) (back c ∷ rows))
-      ≡ text (cond (some (value (m .slot))) (edge first ∷ held (m .slot) (m .key) (value (m .slot)) ∷ (filledFields value (m .inside) c ++ ds)) ds) ++ rest
-  unfolding walk stands opener puts deeper lower flat
+      ≡ text (cond (some (value (m .slot))) (edge first ∷ item (m .slot) (m .key) (value (m .slot)) ∷ (filledFields value (m .inside) c ++ ds)) ds) ++ rest
+  unfolding walk stands opener puts deeper lower flatten
   member-out m c first rows ds rest h = go (some (value (m .slot)))
     where
       inner : List Row
@@ -148,18 +147,18 @@ module _ (value : ℕ → List ℕ) (parts : ℕ → List (List ℕ)) (same : (s
       inside : out first zero inner ≡ text (es ++ ds) ++ rest
       inside = fields-out (m .inside) c first rows ∙ rw (h, text-append es ds) (sym (append-assoc (text es) (text ds) rest))
 
-      stood : flat ((first ∷ bytes "\r\n" ∷ heldParts parts (m .slot) (m .key)) ++ walk value parts first zero inner)
-          ≡ text (edge first ∷ held (m .slot) (m .key) (value (m .slot)) ∷ (es ++ ds)) ++ rest
+      stood : flatten ((first ∷ bytes "\r\n" ∷ heldParts parts (m .slot) (m .key)) ++ walk value parts first zero inner)
+          ≡ text (edge first ∷ item (m .slot) (m .key) (value (m .slot)) ∷ (es ++ ds)) ++ rest
       stood =
           ap (λ (l : List ℕ). first ++ (bytes "\r\n" ++ l))
           (held-flat (m .slot) (m .key) (walk value parts first zero inner) ∙ rw inside (sym (line-text true (m .slot) (m .key) (es ++ ds) rest)))
-          ∙ sym (edge-text first (held (m .slot) (m .key) (value (m .slot)) ∷ (es ++ ds)) rest)
+          ∙ sym (edge-text first (item (m .slot) (m .key) (value (m .slot)) ∷ (es ++ ds)) rest)
 
       go : (b : Bool)
-          → flat (cond b ((first ∷ bytes "\r\n" ∷ heldParts parts (m .slot) (m .key)) ++ walk value parts first zero inner) (walk value parts first 1 inner))
-          ≡ text (cond b (edge first ∷ held (m .slot) (m .key) (value (m .slot)) ∷ (es ++ ds)) ds) ++ rest
+          → flatten (cond b ((first ∷ bytes "\r\n" ∷ heldParts parts (m .slot) (m .key)) ++ walk value parts first zero inner) (walk value parts first 1 inner))
+          ≡ text (cond b (edge first ∷ item (m .slot) (m .key) (value (m .slot)) ∷ (es ++ ds)) ds) ++ rest
       go true = stood
-      go false = ap flat (skip-fields (m .inside) first 0 (back c ∷ rows)) ∙ h
+      go false = ap flatten (skip-fields (m .inside) first 0 (back c ∷ rows)) ∙ h
 
   members-out : (c : List ℕ) (ms : List Member) (first : List ℕ) (rows : List Row)
       → out first zero (memberRows c ms rows) ≡ text (filledMembers value first c ms) ++ out first zero rows
@@ -171,15 +170,15 @@ module _ (value : ℕ → List ℕ) (parts : ℕ → List (List ℕ)) (same : (s
   -- a block, where what it holds and what is left behind it are put
   block-out : (b : Bool) (o : List ℕ) (t : Tree) (first : List ℕ) (rows : List Row) (es ds : List Entry) (rest : List ℕ)
       → out first zero (rowsIn t rows) ≡ text es ++ out (openerIn first t) zero rows → out (openerIn first t) zero rows ≡ text ds ++ rest
-      → flat (cond b (ended o ++ walk value parts first zero (rowsIn t rows)) (walk value parts first 1 (rowsIn t rows)))
+      → flatten (cond b (ended o ++ walk value parts first zero (rowsIn t rows)) (walk value parts first 1 (rowsIn t rows)))
       ≡ text (cond b (edge o ∷ (es ++ ds)) ds) ++ rest
   block-out true o t first rows es ds rest h k =
       edge-flat o (walk value parts first zero (rowsIn t rows))
       ∙ rw (h, k, ← append-assoc (text es) (text ds) rest, ← text-append es ds) (sym (edge-text o (es ++ ds) rest))
-  block-out false o t first rows es ds rest h k = ap flat (skip t first 0 rows) ∙ k
+  block-out false o t first rows es ds rest h k = ap flatten (skip t first 0 rows) ∙ k
 
   pub rows-out : (t : Tree) (first : List ℕ) (rows : List Row) → out first zero (rowsIn t rows) ≡ text (filled value t) ++ out (openerIn first t) zero rows
-  unfolding rowsIn filled walk stands opener puts deeper openerIn flat joined linesIn
+  unfolding rowsIn filled walk stands opener puts deeper openerIn flatten joined linesIn
   rows-out (last c) first rows = sym (edge-text c [] (out first zero rows))
   rows-out (line f t) first rows =
       line-out (f .must) (f .slot) (f .key) first (rowsIn t rows)
@@ -194,8 +193,8 @@ module _ (value : ℕ → List ℕ) (parts : ℕ → List (List ℕ)) (same : (s
 
 -- ---- so it is for a table's bytes that are the rows of a tree
 
-pub filling-is : (l : Lent) (rows : List ℕ) (t : Tree) → rowsOf rows ≡ tableOf t → flat (filling l rows) ≡ joined (linesIn (filled (behindAt l) t))
-unfolding filling tableOf flat walk
+pub filling-is : (l : Lent) (rows : List ℕ) (t : Tree) → rowsOf rows ≡ tableOf t → flatten (filling l rows) ≡ joined (linesIn (filled (behindAt l) t))
+unfolding filling tableOf flatten walk
 filling-is l rows t e =
     rw e
     (rows-out (behindAt l) (partsAt l) (λ s. ap (λ (v : List ℕ). frontAt l s ++ v) (append-nil (valueAt l s))) t (textAt rows 0) []

@@ -14,7 +14,7 @@ use Rattle.digits.proofs.Laws.{length-digits}
 use Rattle.amount.specs.Amounts.{inForm as amountForm, amountText}
 use Rattle.amount.specs.declared.Amount.{Amount}
 use Rattle.amount.proofs.Laws.{written-length}
-use Rattle.amount.proofs.Turns.{text-none}
+use Rattle.amount.proofs.Noughts.{text-none}
 use Rattle.calendar.specs.Dates.{isDate, isMoment, dateText, momentText}
 use Rattle.calendar.specs.declared.Date.{Date}
 use Rattle.calendar.specs.declared.Moment.{Moment}

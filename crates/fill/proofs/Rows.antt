@@ -17,9 +17,9 @@ use Rattle.layout.proofs.Laws.{row-next, row-none, row-at, text-at}
 use Rattle.sheets.specs.Filled.{some}
 use Rattle.fill.specs.Runs.{overRun, behindRun}
 use Rattle.fill.specs.Filling.{isAny, ended, heldParts, lower, deeper, hasValue, anyRows, stands, opener, puts, walk}
-use Rattle.fill.specs.Walks.{isOn, nextParts, nextOff}
+use Rattle.fill.specs.Steps.{isOn, nextParts, nextOff}
 use Rattle.fill.proofs.Runs.{Run, over-append, behind-append, length-run}
-use Rattle.fill.proofs.Walks.{any-none}
+use Rattle.fill.proofs.Trees.{any-none}
 
 -- ---- numbers in a list
 

@@ -9,8 +9,8 @@ use Rattle.layout.specs.Rows.{Row, rowOf, textAt, firstRow, rowsOf}
 use Rattle.fill.specs.Filling.{Lent, behindAt, partsAt, deeper, stands, opener, puts}
 
 -- the line of a slot: its text, its fixed text and its value; and what a row of a kind puts that has them
-abbrev pub held : List ℕ → List ℕ → List ℕ → List (List ℕ)
-held key front value = key ∷ front ∷ value ∷ bytes "\r\n" ∷ []
+abbrev pub lineParts : List ℕ → List ℕ → List ℕ → List (List ℕ)
+lineParts key front value = key ∷ front ∷ value ∷ bytes "\r\n" ∷ []
 
 abbrev pub putsOf : List ℕ → ℕ → List ℕ → List ℕ → List ℕ → List (List ℕ)
 putsOf first kind key front value = puts (λ (slot : ℕ). front ∷ value ∷ []) first (rowOf kind 0 key)

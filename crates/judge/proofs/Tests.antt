@@ -22,7 +22,7 @@ use Rattle.lines.specs.Verdicts.{refused, pass, then, when}
 use Rattle.lines.specs.declared.Verdict.{Verdict}
 use Rattle.lines.proofs.Laws.{stop, go}
 use Rattle.kinds.specs.Kinds.{recordPass}
-use Rattle.kinds.proofs.Turns.{stops, goes-on, broken, kept as passed}
+use Rattle.kinds.proofs.Rules.{stops, goes-on, broken, kept as passed}
 use Rattle.values.specs.Values.{valueOf}
 use Rattle.values.specs.Writable.{fitted, tests, hold, inForm}
 use Rattle.values.proofs.Fields.{fitted-must, fitted-may}

@@ -19,7 +19,7 @@ use Rattle.text.proofs.Laws.{and-both, all-append, before-front, before-length,
 use Rattle.digits.specs.Numerals.{numeral, digits, numberOf, tenTo}
 use Rattle.digits.specs.declared.Number.the-variants.{Is, Not}
 use Rattle.digits.proofs.Laws.{number-is, number-not, numeral-lt, numeral-append, length-digits}
-use Rattle.amount.specs.Amounts.{whole, decimals, isAmount, trimmed, shortened, valueFrom, valueOf, amountRead, partsRead, inForm, spread, amountText, noughts}
+use Rattle.amount.specs.Amounts.{whole, decimals, isAmount, trimmed, shortened, meaningOf, meaning, amountRead, partsRead, inForm, spread, amountText, noughts}
 use Rattle.amount.specs.declared.Amount.{Amount}
 use Rattle.amount.specs.declared.AmountRead.the-variants.{Good, Wrong}
 use Rattle.amount.proofs.Laws.{few-decimals, front, rest, rest-length, rest-stays, text-parts}
@@ -106,7 +106,7 @@ module _ (w f : List ℕ) where
             rw joined-is (lt-trans s (lit< tt))
 
         pub parts-good : Good (record { number = n * t + m; decimals = k }) ≡ partsRead w f
-        unfolding partsRead valueFrom
+        unfolding partsRead meaningOf
         parts-good = rw (number-is w n first .0, rests, joined-is, kept)
 
 -- ---- a text and its comma
@@ -141,7 +141,7 @@ module _ (s : List ℕ) where
       whole-is = ap (λ (i : ℕ). take i s) cut ∙ before-front 44 s
 
       pub parts-are : (rest : List ℕ) → rest ≡ drop (k + 1) s → partsRead (take k s) rest ≡ amountRead s
-      unfolding partsRead amountRead isAmount valueOf decimals
+      unfolding partsRead amountRead isAmount meaning decimals
       parts-are rest e =
           let l = behind in
           let d : rest ≡ decimals s = e ∙ ap (λ (i : ℕ). drop (i + 1) s) cut in

@@ -6,7 +6,7 @@ use mathlib.Core.List.{List}
 use lib.ListN.{length, take, drop}
 use Rattle.pieces.specs.declared.Turn.the-variants.{Message, Done, Past}
 use Rattle.pieces.specs.Pieces.{pieceOf}
-use Rattle.pieces.specs.Turns.{behindOf}
+use Rattle.pieces.specs.Calls.{behindOf}
 use Rattle.pieces.proofs.Laws.{stretch-is, turn-message, turn-done, turn-past}
 use Rattle.mt515.specs.Reading.{readOf}
 use Rattle.mt515.specs.declared.Reading.{Reading}
