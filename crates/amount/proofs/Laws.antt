@@ -1,8 +1,8 @@
 -- What callers cite: an amount's text and its meaning tell each other, up to the tidying of the text.
 -- Assumes nothing.
-use Prim.Native.Nat.{ℕ, zero, suc, _+_, _-_, _*_, _/_, _%_, _^_, _≤_, _<_}
+use Prim.Native.Nat.{ℕ, suc, _+_, _-_, _/_, _%_, _^_, _≤_, _<_}
 use mathlib.Core.Path.{_≡_, refl, sym, ap, _∙_}
-use mathlib.Core.Bool.{Bool, true, false, _&&_, _||_, not, cond, or-true}
+use mathlib.Core.Bool.{Bool, true, false, _&&_, _||_, not, or-true}
 use mathlib.Core.List.{List, [], _∷_, _++_, append-assoc}
 use mathlib.Core.Logic.{_⊎_, ⊎-elim, _↔_}
 use native.Mathlib.Nat.{pow-le-pow-right, lt-of-lt-of-le, zero-add}
@@ -10,8 +10,8 @@ use native.Mathlib.Omega.{arith}
 use lib.Arith.{digits-mod}
 use lib.Dec.{leb, ltb, eqb, lit<}
 use lib.ListN.{length, take, drop, replicate, length-append, length-take, length-drop, length-replicate, take-append-drop}
-use lib.Seq.{take-at, drop-at, take-append-le, drop-append-le}
-use borrow.Author.Tests.{leb-true, ltb-true, eqb-true, le-leb, lt-ltb, eq-eqb, ne-eqb, eqb-false, not-true}
+use lib.Seq.{take-at, drop-at, drop-append-le}
+use borrow.Author.Tests.{leb-true, ltb-true, eqb-true, le-leb, lt-ltb, ne-eqb, eqb-false, not-true}
 use Rattle.text.specs.Classes.{allIn, inClass}
 use Rattle.text.specs.declared.Class.the-variants.{Digit}
 use Rattle.text.proofs.Laws.{and-left, and-right, and-both, all-append}
@@ -19,8 +19,7 @@ use Rattle.digits.specs.Numerals.{numeral, numeralFrom, digits}
 use Rattle.digits.proofs.Laws.{digit-low, digit-high, numeral-append, numeral-lt, numeral-digits, digits-more, length-digits, all-digits}
 use Rattle.amount.specs.Amounts.{whole, decimals, isAmount, trimmed, shortened, tidy, meaningOf, meaning, amountRead, inForm, spread, amountText}
 use Rattle.amount.specs.declared.Amount.{Amount}
-use Rattle.amount.specs.declared.AmountRead.{AmountRead}
-use Rattle.amount.specs.declared.AmountRead.the-variants.{Good, Wrong}
+use Rattle.amount.specs.declared.AmountRead.the-variants.{Good}
 use Rattle.amount.proofs.Trims.{whole-of, decimals-of, split, trimmed-noughts, trimmed-length, trimmed-digits, trimmed-numeral, trimmed-some, Ends, ends-stay, shortened-ends, shortened-twice, shortened-length, shortened-digits}
 
 -- the last digit of a number is its rest by ten

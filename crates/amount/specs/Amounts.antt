@@ -1,7 +1,7 @@
 -- Document 01, "Amounts": 1 to 15 characters, digits and exactly one comma, with at least one digit before the comma. The
 -- meaning is a whole number of the digits and a count of decimals, with nothing lost.
 use Prim.Native.Nat.{ℕ, suc, _+_, _-_, _%_, _^_}
-use mathlib.Core.Bool.{Bool, true, _&&_, _||_, not, cond}
+use mathlib.Core.Bool.{Bool, _&&_, _||_, not, cond}
 use mathlib.Core.List.{List, [], _∷_, _++_}
 use lib.Dec.{leb, ltb, eqb}
 use lib.ListN.{length, take, drop}

@@ -5,8 +5,7 @@ use Prim.Native.String.{String}
 use mathlib.Core.Path.{_≡_}
 use mathlib.Core.List.{List, [], _∷_, map}
 use Rattle.text.specs.Bytes.{bytes}
-use Rattle.amount.specs.Amounts.{amountRead, amountNumber, amountText, tidy, nought, most}
-use Rattle.amount.specs.declared.Amount.{Amount}
+use Rattle.amount.specs.Amounts.{amountRead, amountNumber, amountText, tidy}
 use Rattle.amount.specs.declared.AmountRead.{AmountRead}
 use Rattle.amount.specs.declared.AmountRead.the-variants.{Good, Wrong}
 

@@ -1,5 +1,5 @@
 -- What two programs that keep one promise have in common: all of it. Assumes nothing.
-use mathlib.Core.Path.{_≡_, sym, _∙_}
+use mathlib.Core.Path.{sym, _∙_}
 use Rattle.demands.specs.Answers.{OneAnswer, OneOutcome}
 
 pub one-answer : OneAnswer

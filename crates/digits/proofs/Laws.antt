@@ -4,7 +4,7 @@ use Prim.Native.Nat.{ℕ, zero, suc, _+_, _-_, _*_, _/_, _%_, _^_, _≤_, _<_}
 use mathlib.Core.Path.{_≡_, refl, sym, ap, _∙_}
 use mathlib.Core.Bool.{Bool, true, false, _&&_, cond}
 use mathlib.Core.List.{List, [], _∷_, _++_, append-assoc, append-nil}
-use native.Mathlib.Nat.{add-zero, zero-add, add-suc, add-assoc, mul-assoc, mul-comm, mul-one, zero-mul, add-mul, mul-zero, pow-zero, pow-suc, pow-succ', one-le-pow, mod-lt, div-add-mod', div-lt-iff-lt-mul}
+use native.Mathlib.Nat.{add-zero, zero-add, add-suc, add-assoc, mul-assoc, mul-comm, mul-one, zero-mul, add-mul, pow-zero, pow-suc, pow-succ', mod-lt, div-add-mod', div-lt-iff-lt-mul}
 use native.Mathlib.Numerals.{add-one, one-add}
 use native.Mathlib.Omega.{arith}
 use lib.Arith.{digits-lt, digits-div, digits-mod}
@@ -15,7 +15,6 @@ use Rattle.text.specs.Classes.{allIn, inClass, isDigit, isBetween}
 use Rattle.text.specs.declared.Class.the-variants.{Digit}
 use Rattle.text.proofs.Laws.{and-left, and-right, and-both, all-append}
 use Rattle.digits.specs.Numerals.{numeralFrom, numeral, digits, numberOf, wideNumber}
-use Rattle.digits.specs.declared.Number.{Number}
 use Rattle.digits.specs.declared.Number.the-variants.{Is, Not}
 
 -- ---- one digit

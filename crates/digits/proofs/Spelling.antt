@@ -3,13 +3,13 @@
 -- Assumes nothing.
 use Prim.Native.Nat.{ℕ, zero, suc, _+_, _-_, _*_, _/_, _%_, _^_, _≤_, _<_}
 use mathlib.Core.Path.{_≡_, refl, sym, ap, _∙_}
-use mathlib.Core.Bool.{Bool, true, false, _&&_, cond, and-false}
-use mathlib.Core.List.{List, [], _∷_, _++_}
-use native.Mathlib.Nat.{not-suc-le-zero, le-of-suc-le-suc, add-suc, suc-add, zero-add, add-zero, pow-zero, pow-suc, pow-le-pow-right, lt-of-lt-of-le}
+use mathlib.Core.Bool.{true, false, and-false}
+use mathlib.Core.List.{List, [], _∷_}
+use native.Mathlib.Nat.{not-suc-le-zero, le-of-suc-le-suc, add-suc, suc-add, zero-add, add-zero, pow-suc, pow-le-pow-right, lt-of-lt-of-le}
 use native.Mathlib.Numerals.{add-one}
 use native.Mathlib.Omega.{arith}
 use lib.Arith.{digits-lt}
-use lib.Dec.{leb, ltb, lit<}
+use lib.Dec.{leb, lit<}
 use lib.ListN.{length, drop, getD, set, drop-of-length-le}
 use lib.Seq.{drop-cons}
 use borrow.Author.Tests.{le-leb, lt-leb, lt-ltb, le-ltb}
@@ -18,7 +18,6 @@ use Rattle.text.specs.Copy.{over, fits, placed, after}
 use Rattle.text.specs.declared.Class.the-variants.{Digit}
 use Rattle.text.proofs.Laws.{over-nil, over-set}
 use Rattle.digits.specs.Numerals.{numeralFrom, numeral, digits, numberOf, tenTo}
-use Rattle.digits.specs.declared.Number.{Number}
 use Rattle.digits.specs.declared.Number.the-variants.{Is, Not}
 use Rattle.digits.proofs.Laws.{digit-low, digit-high, length-digits}
 

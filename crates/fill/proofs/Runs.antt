@@ -2,15 +2,14 @@
 -- Assumes nothing.
 use Prim.Native.Nat.{ℕ, _+_, _≤_}
 use mathlib.Core.Path.{_≡_, refl, sym, _∙_}
-use mathlib.Core.Bool.{Bool, true, false, cond}
+use mathlib.Core.Bool.{true}
 use mathlib.Core.List.{List, [], _∷_, _++_, append-assoc, flatten}
-use native.Mathlib.Nat.{add-zero}
 use native.Mathlib.Omega.{arith}
 use lib.ListN.{length, take, drop, length-append}
 use lib.Seq.{take-at}
 use borrow.Author.Tests.{le-leb}
 use Rattle.text.specs.Copy.{over, fits, placed, after}
-use Rattle.text.proofs.Laws.{over-nil, length-placed, run-placed, run-after}
+use Rattle.text.proofs.Laws.{put-none, length-placed, run-placed, run-after}
 use Rattle.fill.specs.Runs.{overRun, behindRun}
 
 -- ---- a part
@@ -92,15 +91,7 @@ flat-append (s ∷ ss) ts = rw (flat-append ss ts) (sym (append-assoc s (flatten
 run-whole : (ss : List (List ℕ)) (buf : List ℕ) (at : ℕ) → at + length (flatten ss) ≤ length buf
     → (behindRun buf at ss ≡ after buf at (flatten ss)) × (overRun buf at ss ≡ placed buf at (flatten ss))
 unfolding flatten behindRun overRun after fits placed
-run-whole [] buf at h = (nothing-after (fits buf at []), nothing-placed (fits buf at []))
-  where
-    nothing-after : (b : Bool) → at ≡ cond b (at + 0) at
-    nothing-after true = sym (add-zero at)
-    nothing-after false = refl
-
-    nothing-placed : (b : Bool) → buf ≡ cond b (over buf at []) buf
-    nothing-placed true = sym (over-nil buf at)
-    nothing-placed false = refl
+run-whole [] buf at h = put-none buf at
 run-whole (s ∷ ss) buf at h =
     let l = length-append s (flatten ss) in
     let f : fits buf at (s ++ flatten ss) ≡ true = le-leb (at + length (s ++ flatten ss)) (length buf) h in

@@ -1,6 +1,6 @@
 -- Parts put one behind the other into a lent buffer, each where it has room: what the buffer holds, and the place behind them.
 use Prim.Native.Nat.{ℕ}
-use mathlib.Core.List.{List, [], _∷_, _++_}
+use mathlib.Core.List.{List, [], _∷_}
 use Rattle.text.specs.Copy.{placed, after}
 
 unfoldable pub overRun : List ℕ → ℕ → List (List ℕ) → List ℕ

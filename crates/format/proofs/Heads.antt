@@ -11,9 +11,8 @@ use lib.Seq.{drop-append-seam}
 use borrow.Author.Tests.{eqb-true, eq-eqb, not-true}
 use Rattle.text.specs.Bytes.{begins, same}
 use Rattle.text.proofs.Laws.{and-left, and-right, and-both, begins-is, begins-append}
-use Rattle.text.proofs.Printed.{printed}
+use Rattle.text.proofs.Printed.{printed, allPrinted}
 use Rattle.lines.specs.Verdicts.{refused, pass}
-use Rattle.lines.proofs.Joins.{allPrintable}
 use Rattle.forms.specs.Forms.{Slot, valueNumber}
 use Rattle.forms.proofs.Laws.{value-begins}
 use Rattle.sheets.specs.Sheets.{has}
@@ -172,7 +171,7 @@ module _ (slotOf : ℕ → Slot) where
         rw (untouched-line fs (line s) (head-untouched fs all s (i s (has-front s hs)) f g))
         (ap (λ (x : List (List ℕ)). line s ∷ x) (heads-tidy fs all hs (λ x e. i x (or-two (eqb s x) _ e)) f g))
 
-    pub heads-printed : (hs : List ℕ) → ((s : ℕ) → has hs s ≡ true → printed (line s) ≡ true) → allPrintable (map line hs) ≡ true
-    unfolding allPrintable has
+    pub heads-printed : (hs : List ℕ) → ((s : ℕ) → has hs s ≡ true → printed (line s) ≡ true) → allPrinted (map line hs) ≡ true
+    unfolding allPrinted has
     heads-printed [] p = refl
     heads-printed (s ∷ hs) p = and-both (p s (has-front s hs)) (heads-printed hs (λ x e. p x (or-two (eqb s x) _ e)))

@@ -5,8 +5,8 @@ use mathlib.Core.Path.{_≡_, refl}
 use mathlib.Core.Bool.{Bool, true, _&&_}
 use mathlib.Core.List.{List, [], _∷_, _++_}
 use Rattle.text.proofs.Laws.{and-left, and-right, and-both}
-use Rattle.text.proofs.Printed.{printed, printed-append}
-use Rattle.lines.proofs.Joins.{allPrintable, printable-append}
+use Rattle.text.proofs.Printed.{printed, printed-append, allPrinted}
+use Rattle.lines.proofs.Joins.{printable-append}
 use Rattle.forms.specs.Forms.{Slot, valueNumber}
 use Rattle.forms.proofs.Printing.{printedForm, value-printed}
 use Rattle.sheets.specs.Trees.{Field, Member, Tree, last, line, block, group, chain}
@@ -59,21 +59,21 @@ right-printed (edge o ∷ es) ds h = right-printed es ds h
 right-printed (item s k v ∷ es) ds h = right-printed es ds (h .1)
 
 abbrev Lined : List Entry → Type 0
-Lined es = allPrintable (linesIn es) ≡ true
+Lined es = allPrinted (linesIn es) ≡ true
 
 edge-more : (o : List ℕ) (es : List Entry) → printed o ≡ true → Lined es → Lined (edge o ∷ es)
-unfolding linesIn lineOf allPrintable
+unfolding linesIn lineOf allPrinted
 edge-more o es h r = and-both h r
 
 held-more : (s : ℕ) (k v : List ℕ) (es : List Entry) → printed k ≡ true → printed v ≡ true → Lined es → Lined (item s k v ∷ es)
-unfolding linesIn lineOf allPrintable
+unfolding linesIn lineOf allPrinted
 held-more s k v es h e r = and-both (printed-append k v h e) r
 
 both-more : (es ds : List Entry) → Lined es → Lined ds → Lined (es ++ ds)
 both-more es ds p q = rw (lines-both es ds) (printable-append (linesIn es) (linesIn ds) p q)
 
-pub laid-printed : {slots : List ℕ} {t : Tree} {es : List Entry} → Laid slots t es → texts t ≡ true → Printed es → allPrintable (linesIn es) ≡ true
-unfolding texts Printed linesIn allPrintable
+pub laid-printed : {slots : List ℕ} {t : Tree} {es : List Entry} → Laid slots t es → texts t ≡ true → Printed es → allPrinted (linesIn es) ≡ true
+unfolding texts Printed linesIn allPrinted
 laid-printed (shut {c = c}) h p = edge-more c [] h refl
 laid-printed (given {f = f} {es = es} v l) h p = held-more (f .slot) (f .key) v es (and-left _ _ h) (p .0) (laid-printed l (and-right (printed (f .key)) _ h) (p .1))
 laid-printed (absent {f = f} z l) h p = laid-printed l (and-right (printed (f .key)) _ h) p

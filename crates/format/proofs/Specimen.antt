@@ -13,7 +13,7 @@ use Rattle.text.specs.Bytes.{bytes, begins, same, before}
 use Rattle.text.specs.Classes.{isBetween, isDigit, isUpper, isC, inClass, allIn, isCode}
 use Rattle.text.proofs.Bools.{or-case, or-one, or-two}
 use Rattle.text.proofs.Laws.{and-left, and-right, and-both, same-eq, same-refl}
-use Rattle.text.proofs.Printed.{printed}
+use Rattle.text.proofs.Printed.{printed, allPrinted}
 use Rattle.lines.specs.Lines.{joined}
 use Rattle.lines.specs.Verdicts.{refused, pass, then, when}
 use Rattle.amount.specs.Amounts.{amountRead, amountNumber, isAmount, whole, tidy}
@@ -21,7 +21,7 @@ use Rattle.amount.proofs.Laws.{tidy-amount, tidy-tidy}
 use Rattle.forms.specs.Forms.{Form, nothing, codes, words, amount, date, moment, narrative, other, isWord, wordAt, unless, formNumber, valueNumber}
 use Rattle.forms.proofs.Laws.{amount-good}
 use Rattle.forms.proofs.Widths.{longest, formWidth, bounded}
-use Rattle.forms.proofs.Printing.{allPrinted, printedForm}
+use Rattle.forms.proofs.Printing.{printedForm}
 use Rattle.blocks.specs.Blocks.{isTagged, nameOf}
 use Rattle.sheets.specs.Trees.{chain}
 use Rattle.sheets.specs.Slots.{fieldSlots, ownSlots, memberSlots, slotsOf, firstSlots, mustSlots}

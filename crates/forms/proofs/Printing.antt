@@ -3,7 +3,7 @@
 -- Assumes nothing.
 use Prim.Native.Nat.{ℕ, zero, suc}
 use mathlib.Core.Path.{_≡_, refl, sym, ap, _∙_}
-use mathlib.Core.Bool.{Bool, true, false, _&&_, cond}
+use mathlib.Core.Bool.{Bool, true, false, cond}
 use mathlib.Core.List.{List, [], _∷_, _++_}
 use native.Mathlib.Omega.{arith}
 use lib.ListN.{length, drop, getD}
@@ -11,7 +11,7 @@ use borrow.Author.Tests.{eqb-true}
 use Rattle.text.specs.Bytes.{bytes}
 use Rattle.text.specs.Classes.{isDigit, isBetween}
 use Rattle.text.proofs.Laws.{and-left, and-right, and-both}
-use Rattle.text.proofs.Printed.{printed, printed-append, between, digits-printed, codes-printed}
+use Rattle.text.proofs.Printed.{printed, printed-append, between, digits-printed, codes-printed, allPrinted}
 use Rattle.amount.specs.Amounts.{whole, decimals, isAmount}
 use Rattle.amount.proofs.Laws.{amount-split, amount-fit}
 use Rattle.forms.specs.Forms.{Form, Slot, nothing, codes, words, amount, date, moment, narrative, other, wordAt, isWord, formNumber, valueNumber}
@@ -19,10 +19,6 @@ use Rattle.forms.specs.Narrative.{services, serviceIn, hasPeriod, period
 use Rattle.forms.proofs.Laws.{unless-good, value-behind, code-all, word-at, amount-good, date-good, moment-good}
 use Rattle.forms.proofs.Narratives as Narratives
 use Rattle.forms.proofs.Narratives.{periodPart, reasonPart, worded, period-digit, reason-code, narrative-is}
-
-unfoldable pub allPrinted : List (List ℕ) → Bool
-allPrinted [] = true
-allPrinted (w ∷ ws) = printed w && allPrinted ws
 
 -- a form takes printable values only
 unfoldable pub printedForm : Form → Bool

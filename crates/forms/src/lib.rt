@@ -9,10 +9,9 @@ use calendar::Date;
 use calendar::Moment;
 ghost use mathlib.Core.Path.{_≡_};
 ghost use mathlib.Core.List.{[]};
-ghost use Prim.Native.Nat.{_+_, _*_, _≤_};
-ghost use lib.Dec.{eqb};
-ghost use lib.ListN.{length, take, drop, getD};
-ghost use Rattle.forms.specs.Forms.{wordAt, isWord, unless, formNumber, valueNumber};
+ghost use Prim.Native.Nat.{_+_, _*_};
+ghost use lib.ListN.{length, getD};
+ghost use Rattle.forms.specs.Forms.{wordAt, unless, formNumber, valueNumber};
 ghost use Rattle.forms.specs.Slots.{wordsOf, wordsIn, formOf, slotAt};
 
 // The place of a value among words of four letters that stand one behind the other; their number where it is none of them.

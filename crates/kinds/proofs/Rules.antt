@@ -9,7 +9,6 @@ use Rattle.lines.specs.Verdicts.{refused, pass, then, when}
 use Rattle.lines.specs.declared.Verdict.{Verdict}
 use Rattle.trade.specs.declared.Kind.{Kind}
 use Rattle.trade.specs.declared.Trade.{Trade}
-use Rattle.kinds.specs.Kinds.{}
 
 -- a rule of one kind is that of every trade of the kind
 pub by-kind : (rule : Kind → Trade → Bool) (t : Trade) (k : Kind) (b : Bool) → t .kind ≡ k → b ≡ rule k t → b ≡ rule (t .kind) t

@@ -3,8 +3,8 @@
 -- Assumes nothing.
 use Prim.Native.Nat.{ℕ, suc, _≤_}
 use mathlib.Core.Path.{_≡_, refl, sym, ap, _∙_}
-use mathlib.Core.Bool.{Bool, true, false, _&&_, not, cond, true≢false}
-use mathlib.Core.List.{List, [], _∷_, _++_, map, append-assoc, append-nil}
+use mathlib.Core.Bool.{Bool, true, false, not, cond, true≢false}
+use mathlib.Core.List.{List, [], _∷_, _++_, append-assoc, append-nil}
 use native.Mathlib.Omega.{arith}
 use lib.Dec.{eqb}
 use lib.ListN.{length}
@@ -13,21 +13,17 @@ use Rattle.text.specs.Bytes.{bytes, begins, same, before}
 use Rattle.text.specs.Classes.{isBetween}
 use Rattle.text.proofs.Bools.{or-case}
 use Rattle.text.proofs.Laws.{and-left, and-right, and-both}
-use Rattle.text.proofs.Printed.{printed}
+use Rattle.text.proofs.Printed.{printed, allPrinted}
 use Rattle.lines.specs.Verdicts.{refused, pass, then}
 use Rattle.lines.specs.Lines.{inFront, cutBehind, bare, withoutEnding, linesOf, ended, joined, sizePass, mayStand, bytePass, endPass, linesPass}
 use Rattle.lines.proofs.Laws.{print-lf, print-cr, lines-lf, lines-cr, lines-more, plain, Closed, passed}
 
 -- ---- lines of 20 to 7E hex
 
-unfoldable pub allPrintable : List (List ℕ) → Bool
-allPrintable [] = true
-allPrintable (l ∷ ls) = printed l && allPrintable ls
-
-pub printable-append : (ls ks : List (List ℕ)) → allPrintable ls ≡ true → allPrintable ks ≡ true → allPrintable (ls ++ ks) ≡ true
-unfolding allPrintable
+pub printable-append : (ls ks : List (List ℕ)) → allPrinted ls ≡ true → allPrinted ks ≡ true → allPrinted (ls ++ ks) ≡ true
+unfolding allPrinted
 printable-append [] ks h k = k
-printable-append (l ∷ ls) ks h k = and-both {a = printed l} (and-left _ (allPrintable ls) h) (printable-append ls ks (and-right (printed l) _ h) k)
+printable-append (l ∷ ls) ks h k = and-both {a = printed l} (and-left _ (allPrinted ls) h) (printable-append ls ks (and-right (printed l) _ h) k)
 
 -- the first line, its ending, and what stands behind
 joined-front : (l : List ℕ) (ls : List (List ℕ)) (rest : List ℕ) → joined (l ∷ ls) ++ rest ≡ l ++ (13 ∷ 10 ∷ (joined ls ++ rest))
@@ -58,14 +54,14 @@ unfolding withoutEnding
 ending-off l h = ap bare (before-lf l h) ∙ bare-cr l
 
 -- lines in front of other bytes, and lines alone
-pub lines-front : (ls : List (List ℕ)) (rest : List ℕ) → allPrintable ls ≡ true → linesOf (joined ls ++ rest) ≡ ls ++ linesOf rest
-unfolding allPrintable linesOf joined
+pub lines-front : (ls : List (List ℕ)) (rest : List ℕ) → allPrinted ls ≡ true → linesOf (joined ls ++ rest) ≡ ls ++ linesOf rest
+unfolding allPrinted linesOf joined
 lines-front [] rest h = refl
 lines-front (l ∷ ls) rest h =
     rw (joined-front l ls rest, cut-front l (joined ls ++ rest) (and-left _ _ h), ending-off l (and-left _ _ h))
     (ap (λ (x : List (List ℕ)). l ∷ x) (lines-front ls rest (and-right (printed l) _ h)))
 
-pub lines-joined : (ls : List (List ℕ)) → allPrintable ls ≡ true → linesOf (joined ls) ≡ ls
+pub lines-joined : (ls : List (List ℕ)) → allPrinted ls ≡ true → linesOf (joined ls) ≡ ls
 unfolding linesOf cutBehind
 lines-joined ls h = ap linesOf (sym (append-nil (joined ls))) ∙ lines-front ls [] h ∙ append-nil ls
 
@@ -77,8 +73,8 @@ bytes-front n [] rest h = refl
 bytes-front n (b ∷ l) rest h =
     rw (and-left (isBetween 32 126 b) _ h, print-lf b (and-left _ _ h)) (bytes-front n l rest (and-right (isBetween 32 126 b) _ h))
 
-pub bytes-joined : (n : ℕ) (ls : List (List ℕ)) → allPrintable ls ≡ true → bytePass n (joined ls) ≡ pass
-unfolding allPrintable joined bytes bytePass
+pub bytes-joined : (n : ℕ) (ls : List (List ℕ)) → allPrinted ls ≡ true → bytePass n (joined ls) ≡ pass
+unfolding allPrinted joined bytes bytePass
 bytes-joined n [] h = refl
 bytes-joined n (l ∷ ls) h = bytes-front n l (joined ls) (and-left _ _ h) ∙ bytes-joined (suc n) ls (and-right (printed l) _ h)
 
@@ -98,7 +94,7 @@ ended-joined l (k ∷ ls) = ended-behind l _ (ended-behind (13 ∷ 10 ∷ []) (j
 
 pub record Whole (ls : List (List ℕ)) : Type 0 where
   pub closed : Closed ls
-  pub printing : allPrintable ls ≡ true
+  pub printing : allPrinted ls ≡ true
 
 -- lines none of which is `-`, and then `-`
 pub end-closed : (n : ℕ) (body : List (List ℕ)) → plain body ≡ true → endPass true n (body ++ (bytes "-" ∷ [])) ≡ pass
@@ -140,32 +136,32 @@ passes-joined ls w h =
 -- ---- what passes is cut into such lines
 
 -- one such byte in front of them, LF, and a CR that belongs to an ending
-front-print : (b : ℕ) (ls : List (List ℕ)) → isBetween 32 126 b ≡ true → allPrintable ls ≡ true → allPrintable (inFront b ls) ≡ true
-unfolding inFront allPrintable printed
+front-print : (b : ℕ) (ls : List (List ℕ)) → isBetween 32 126 b ≡ true → allPrinted ls ≡ true → allPrinted (inFront b ls) ≡ true
+unfolding inFront allPrinted printed
 front-print b [] h k = and-both (and-both h refl) refl
 front-print b (l ∷ ls) h k = and-both (and-both h (and-left _ _ k)) (and-right (printed l) _ k)
 
-ending-cr : (b : ℕ) (s : List ℕ) → eqb b 13 ≡ true → begins (bytes "\n") s ≡ true → allPrintable (linesOf s) ≡ true → allPrintable (linesOf (b ∷ s)) ≡ true
-unfolding allPrintable printed begins bytes
+ending-cr : (b : ℕ) (s : List ℕ) → eqb b 13 ≡ true → begins (bytes "\n") s ≡ true → allPrinted (linesOf s) ≡ true → allPrinted (linesOf (b ∷ s)) ≡ true
+unfolding allPrinted printed begins bytes
 ending-cr b [] e f h = absurd (true≢false (sym f))
 ending-cr b (c ∷ s) e f h =
     let p = eqb-true b 13 e in
     let q = eqb-true c 10 (and-left (eqb c 10) true f) in
     rw (p, q, lines-cr s) (rw (q, lines-lf s) at h)
 
-lines-byte : (b : ℕ) (s : List ℕ) → mayStand b s ≡ true → allPrintable (linesOf s) ≡ true → allPrintable (linesOf (b ∷ s)) ≡ true
-unfolding mayStand allPrintable printed
+lines-byte : (b : ℕ) (s : List ℕ) → mayStand b s ≡ true → allPrinted (linesOf s) ≡ true → allPrinted (linesOf (b ∷ s)) ≡ true
+unfolding mayStand allPrinted printed
 lines-byte b s h k =
     or-case (isBetween 32 126 b) _ h (λ e. rw (lines-more b (print-lf b e) s (print-cr b e)) (front-print b (linesOf s) e k))
     (λ r. or-case (eqb b 10) _ r (λ e. rw (eqb-true b 10 e, lines-lf s) k) (λ e. ending-cr b s (and-left (eqb b 13) _ e) (and-right (eqb b 13) _ e) k))
 
-lines-printable : (n : ℕ) (m : List ℕ) → bytePass n m .number ≡ 0 → allPrintable (linesOf m) ≡ true
-unfolding bytePass linesOf cutBehind allPrintable refused
+lines-printable : (n : ℕ) (m : List ℕ) → bytePass n m .number ≡ 0 → allPrinted (linesOf m) ≡ true
+unfolding bytePass linesOf cutBehind allPrinted refused
 lines-printable n [] z = refl
 lines-printable n (b ∷ s) z = at (lines-printable (cond (eqb b 10) (suc n) n) s) (mayStand b s) refl z
   where
-    at : (bytePass (cond (eqb b 10) (suc n) n) s .number ≡ 0 → allPrintable (linesOf s) ≡ true) → (t : Bool) → mayStand b s ≡ t
-        → cond t (bytePass (cond (eqb b 10) (suc n) n) s) (refused 2 n) .number ≡ 0 → allPrintable (linesOf (b ∷ s)) ≡ true
+    at : (bytePass (cond (eqb b 10) (suc n) n) s .number ≡ 0 → allPrinted (linesOf s) ≡ true) → (t : Bool) → mayStand b s ≡ t
+        → cond t (bytePass (cond (eqb b 10) (suc n) n) s) (refused 2 n) .number ≡ 0 → allPrinted (linesOf (b ∷ s)) ≡ true
     at ih true h z = lines-byte b s h (ih z)
     at ih false h z = let no : ⊥ = omega arith in absurd no
 

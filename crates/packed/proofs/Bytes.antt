@@ -1,7 +1,7 @@
 -- The mathematics of the crate's functions: a date and time, and what each turn of a loop leaves.
 -- Assumes nothing.
 use Prim.Native.Nat.{ℕ, suc, _+_, _-_, _*_, _/_, _%_, _≤_, _<_}
-use mathlib.Core.Path.{_≡_, refl, sym, ap, _∙_}
+use mathlib.Core.Path.{_≡_, sym, ap, _∙_}
 use mathlib.Core.Bool.{true}
 use mathlib.Core.List.{List, [], _∷_, _++_, map, append-assoc, append-nil, flatten}
 use native.Mathlib.Nat.{zero-mul, suc-mul, mul-le-mul-right}

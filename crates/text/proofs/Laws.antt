@@ -15,7 +15,7 @@ use borrow.Author.Tests.{le-leb, leb-true, eq-eqb, ne-eqb, eqb-true}
 use Rattle.text.specs.Bytes.{begins, same, before, parts}
 use Rattle.text.specs.Classes.{inClass, allIn}
 use Rattle.text.specs.Copy.{over, fits, placed, after}
-use Rattle.text.specs.Texts.{blank, contents, textOf, inForm}
+use Rattle.text.specs.Texts.{contents, textOf, inForm}
 use Rattle.text.specs.declared.Class.{Class}
 use Rattle.text.specs.declared.Class.the-variants.{C, Zero}
 use Rattle.text.specs.declared.Text.{Text}
@@ -158,6 +158,15 @@ module _ (buf : List ℕ) (at : ℕ) (s : List ℕ) where
 pub over-nil : (buf : List ℕ) (at : ℕ) → over buf at [] ≡ buf
 unfolding over
 over-nil buf at = rw (add-zero, take-append-drop)
+
+-- putting no bytes changes neither buffer nor place
+pub put-none : (buf : List ℕ) (at : ℕ) → (at ≡ after buf at []) × (buf ≡ placed buf at [])
+unfolding after placed
+put-none buf at = on (fits buf at [])
+  where
+    on : (b : Bool) → (at ≡ cond b (at + 0) at) × (buf ≡ cond b (over buf at []) buf)
+    on true = (sym (add-zero at), sym (over-nil buf at))
+    on false = (refl, refl)
 
 -- one byte more behind what is put
 pub over-set : (buf : List ℕ) (at : ℕ) (s : List ℕ) (x : ℕ) → at + length s < length buf → over (set buf (at + length s) x) at s ≡ over buf at (s ++ (x ∷ []))

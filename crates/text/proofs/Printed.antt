@@ -16,6 +16,10 @@ unfoldable pub printed : List ℕ → Bool
 printed [] = true
 printed (b ∷ s) = isBetween 32 126 b && printed s
 
+unfoldable pub allPrinted : List (List ℕ) → Bool
+allPrinted [] = true
+allPrinted (s ∷ ss) = printed s && allPrinted ss
+
 pub printed-append : (s t : List ℕ) → printed s ≡ true → printed t ≡ true → printed (s ++ t) ≡ true
 unfolding printed
 printed-append [] t p q = q

@@ -1,16 +1,16 @@
 -- The mathematics of the crate's functions, over plain lists and numbers: what each turn of a scan says of the test of the
 -- whole part, and what a run of stores leaves in a buffer.
 -- Assumes nothing.
-use Prim.Native.Nat.{ℕ, zero, suc, _+_, _-_, _≤_, _<_}
+use Prim.Native.Nat.{ℕ, suc, _+_, _-_, _≤_, _<_}
 use mathlib.Core.Path.{_≡_, refl, sym, ap, _∙_}
-use mathlib.Core.Bool.{Bool, true, false, _&&_, cond, and-false}
-use mathlib.Core.List.{List, [], _∷_, _++_, append-assoc, append-nil}
+use mathlib.Core.Bool.{Bool, true, false, _&&_, and-false}
+use mathlib.Core.List.{List, [], _∷_, _++_, append-assoc}
 use native.Mathlib.Numerals.{add-one}
 use native.Mathlib.Nat.{add-zero, zero-add, not-suc-le-zero, le-of-suc-le-suc}
 use native.Mathlib.Omega.{arith}
-use lib.Dec.{leb, eqb}
-use lib.ListN.{length, take, drop, getD, set, replicate, drop-of-length-le}
-use lib.Seq.{drop-cons, paste, paste-zero, paste-suc, take-length, take-all}
+use lib.Dec.{eqb}
+use lib.ListN.{length, drop, getD, set, replicate, drop-of-length-le}
+use lib.Seq.{drop-cons, paste, paste-suc, take-length, take-all}
 use borrow.Author.Tests.{le-leb, lt-leb, eq-eqb, ne-eqb}
 use Rattle.text.proofs.Laws.{drop-replicate}
 use Rattle.text.specs.Bytes.{begins, same, before}

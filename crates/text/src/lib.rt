@@ -6,7 +6,7 @@ ghost use mathlib.Core.Path.{_≡_};
 ghost use lib.ListN.{length};
 ghost use Rattle.text.specs.Bytes.{begins, same, before};
 ghost use Rattle.text.specs.Classes.{isBetween, inClass, allIn, isCode};
-ghost use Rattle.text.specs.Texts.{blank, contents, textOf, inForm};
+ghost use Rattle.text.specs.Texts.{contents, textOf, inForm};
 ghost use Rattle.text.specs.Copy.{placed, after};
 
 // The classes that document 01's values are made of, and the zero byte behind a text.

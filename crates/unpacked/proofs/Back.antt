@@ -25,7 +25,8 @@ use Rattle.trade.specs.declared.Service.{Service}
 use Rattle.trade.specs.declared.Period.{Period}
 use Rattle.trade.specs.declared.Trade.{Trade}
 use Rattle.values.specs.Writable.{prepForm, periodForm, reasonForm, tests, hold, inForm}
-use Rattle.values.proofs.Fields.{hold-at, fitted-form}
+use Rattle.values.proofs.Fields.{fitted-form}
+use Rattle.values.proofs.Laws.{test}
 use Rattle.judge.specs.Judging.{judgeOf}
 use Rattle.judge.specs.Cases.{cases}
 use Rattle.judge.proofs.Laws.{judge-zero}
@@ -283,38 +284,33 @@ period-fits Period.Absent e = refl
 period-fits (Period.Days n) e = let h = leb-true n 9 e in le-leb n 254 (omega arith)
 
 module _ (t : Trade) (e : inForm t ≡ true) where
-  -- the test of a slot
-  at : (slot : ℕ) → getD (tests t) slot true ≡ true
-  unfolding inForm
-  at = hold-at (tests t) e
-
   form-texts : hold (map textFits (texts t)) ≡ true
   unfolding texts tests hold
   form-texts =
-      and-both (form-fits 0 20 (t .password) (fitted-form 28 _ (at 28)))
-      (and-both (form-fits 0 20 (t .sender) (fitted-form 29 _ (at 29)))
-      (and-both (form-fits 0 20 (t .seme) (fitted-form 1 _ (at 1)))
-      (and-both (form-fits 0 20 (t .mast) (fitted-form 4 _ (at 4)))
-      (and-both (form-fits 0 20 (t .prev) (fitted-form 5 _ (at 5)))
-      (and-both (form-fits 0 20 (t .list) (fitted-form 6 _ (at 6)))
-      (and-both (form-fits 0 20 (t .buyer .code) (fitted-form 12 _ (at 12)))
-      (and-both (form-fits 0 20 (t .buyer .reference) (fitted-form 13 _ (at 13)))
-      (and-both (form-fits 0 20 (t .buyer .trader) (fitted-form 14 _ (at 14)))
-      (and-both (form-fits 0 20 (t .seller .code) (fitted-form 15 _ (at 15)))
-      (and-both (form-fits 0 20 (t .seller .reference) (fitted-form 16 _ (at 16)))
-      (and-both (form-fits 0 20 (t .seller .trader) (fitted-form 17 _ (at 17)))
-      (and-both (form-fits 0 20 (t .cusip) (fitted-form 19 _ (at 19)))
-      (and-both (form-fits 0 20 (t .pool) (fitted-form 20 _ (at 20)))
-      (and-both (reason-fits (t .reason) (and-right (periodForm (t .period)) _ (at 21))) refl))))))))))))))
+      and-both (form-fits 0 20 (t .password) (fitted-form 28 _ (test t e 28)))
+      (and-both (form-fits 0 20 (t .sender) (fitted-form 29 _ (test t e 29)))
+      (and-both (form-fits 0 20 (t .seme) (fitted-form 1 _ (test t e 1)))
+      (and-both (form-fits 0 20 (t .mast) (fitted-form 4 _ (test t e 4)))
+      (and-both (form-fits 0 20 (t .prev) (fitted-form 5 _ (test t e 5)))
+      (and-both (form-fits 0 20 (t .list) (fitted-form 6 _ (test t e 6)))
+      (and-both (form-fits 0 20 (t .buyer .code) (fitted-form 12 _ (test t e 12)))
+      (and-both (form-fits 0 20 (t .buyer .reference) (fitted-form 13 _ (test t e 13)))
+      (and-both (form-fits 0 20 (t .buyer .trader) (fitted-form 14 _ (test t e 14)))
+      (and-both (form-fits 0 20 (t .seller .code) (fitted-form 15 _ (test t e 15)))
+      (and-both (form-fits 0 20 (t .seller .reference) (fitted-form 16 _ (test t e 16)))
+      (and-both (form-fits 0 20 (t .seller .trader) (fitted-form 17 _ (test t e 17)))
+      (and-both (form-fits 0 20 (t .cusip) (fitted-form 19 _ (test t e 19)))
+      (and-both (form-fits 0 20 (t .pool) (fitted-form 20 _ (test t e 20)))
+      (and-both (reason-fits (t .reason) (and-right (periodForm (t .period)) _ (test t e 21))) refl))))))))))))))
 
   form-numbers : hold (map numberFits (numbers t)) ≡ true
   unfolding numbers tests hold
   form-numbers =
-      let price = amount-fits (t .price .0) (at 9) in
-      let par = amount-fits (t .par .0) (at 18) in
+      let price = amount-fits (t .price .0) (test t e 9) in
+      let par = amount-fits (t .par .0) (test t e 18) in
       and-both (number-of-fits (t .prep))
       (and-both (number-of-fits (t .trad))
-      (and-both (date-fits (t .sett .0) (at 8))
+      (and-both (date-fits (t .sett .0) (test t e 8))
       (and-both (price .0) (and-both (price .1) (and-both (par .0) (and-both (par .1) refl))))))
 
   form-all : hasRoom t ≡ true
@@ -322,8 +318,8 @@ module _ (t : Trade) (e : inForm t ≡ true) where
   form-all =
       and-both form-texts
       (and-both form-numbers
-      (and-both (period-fits (t .period) (and-left _ _ (at 21)))
-      (and-both (prep-fits (t .prep) (at 3)) (moment-fits (t .trad) (at 7)))))
+      (and-both (period-fits (t .period) (and-left _ _ (test t e 21)))
+      (and-both (prep-fits (t .prep) (test t e 3)) (moment-fits (t .trad) (test t e 7)))))
 
 pub writable-fits : (t : Trade) → writable t ≡ true → hasRoom t ≡ true
 writable-fits t h = form-all t (judge-zero t (writable-judged t h) .0)

@@ -6,7 +6,6 @@ use mathlib.Core.Bool.{Bool, true, false, _&&_, true≢false}
 use mathlib.Core.List.{List, [], _∷_, map}
 use native.Mathlib.Omega.{arith}
 use lib.Dec.{leb, eqb}
-use lib.ListN.{getD}
 use borrow.Author.Tests.{leb-true, leb-false, le-leb, eqb-true}
 use Rattle.text.specs.Texts.{inForm as textForm}
 use Rattle.text.specs.declared.Text.{Text}
@@ -19,7 +18,8 @@ use Rattle.trade.specs.declared.Party.{Party}
 use Rattle.trade.specs.declared.Period.{Period}
 use Rattle.trade.specs.declared.Trade.{Trade}
 use Rattle.values.specs.Writable.{prepForm, periodForm, reasonForm, tests, hold, inForm}
-use Rattle.values.proofs.Fields.{hold-at, fitted-form}
+use Rattle.values.proofs.Fields.{fitted-form}
+use Rattle.values.proofs.Laws.{test}
 use Rattle.judge.proofs.Laws.{judge-zero}
 use Rattle.message.specs.Writing.{writable}
 use Rattle.message.proofs.Writes.{writable-judged}
@@ -230,33 +230,28 @@ prep-itself m e =
     (moment-itself m)
 
 module _ (t : Trade) (form : inForm (capped t) ≡ true) where
-  -- the test of a slot
-  at : (slot : ℕ) → getD (tests (capped t)) slot true ≡ true
-  unfolding inForm
-  at = hold-at (tests (capped t)) form
-
   capped-itself : capped t ≡ t
   unfolding capped partyIn tests
   capped-itself =
       rw (
-        text-itself 0 20 (t .password) (fitted-form 28 _ (at 28)),
-        text-itself 0 20 (t .sender) (fitted-form 29 _ (at 29)),
-        text-itself 0 20 (t .seme) (fitted-form 1 _ (at 1)),
-        prep-itself (t .prep) (at 3),
-        text-itself 0 20 (t .mast) (fitted-form 4 _ (at 4)),
-        text-itself 0 20 (t .prev) (fitted-form 5 _ (at 5)),
-        text-itself 0 20 (t .list) (fitted-form 6 _ (at 6)),
-        moment-itself (t .trad) (at 7),
-        text-itself 0 20 (t .buyer .code) (fitted-form 12 _ (at 12)),
-        text-itself 0 20 (t .buyer .reference) (fitted-form 13 _ (at 13)),
-        text-itself 0 20 (t .buyer .trader) (fitted-form 14 _ (at 14)),
-        text-itself 0 20 (t .seller .code) (fitted-form 15 _ (at 15)),
-        text-itself 0 20 (t .seller .reference) (fitted-form 16 _ (at 16)),
-        text-itself 0 20 (t .seller .trader) (fitted-form 17 _ (at 17)),
-        text-itself 0 20 (t .cusip) (fitted-form 19 _ (at 19)),
-        text-itself 0 20 (t .pool) (fitted-form 20 _ (at 20)),
-        period-itself (t .period) (and-left _ _ (at 21)),
-        reason-itself (t .reason) (and-right (periodForm (periodOf (t .period))) _ (at 21)),
+        text-itself 0 20 (t .password) (fitted-form 28 _ (test (capped t) form 28)),
+        text-itself 0 20 (t .sender) (fitted-form 29 _ (test (capped t) form 29)),
+        text-itself 0 20 (t .seme) (fitted-form 1 _ (test (capped t) form 1)),
+        prep-itself (t .prep) (test (capped t) form 3),
+        text-itself 0 20 (t .mast) (fitted-form 4 _ (test (capped t) form 4)),
+        text-itself 0 20 (t .prev) (fitted-form 5 _ (test (capped t) form 5)),
+        text-itself 0 20 (t .list) (fitted-form 6 _ (test (capped t) form 6)),
+        moment-itself (t .trad) (test (capped t) form 7),
+        text-itself 0 20 (t .buyer .code) (fitted-form 12 _ (test (capped t) form 12)),
+        text-itself 0 20 (t .buyer .reference) (fitted-form 13 _ (test (capped t) form 13)),
+        text-itself 0 20 (t .buyer .trader) (fitted-form 14 _ (test (capped t) form 14)),
+        text-itself 0 20 (t .seller .code) (fitted-form 15 _ (test (capped t) form 15)),
+        text-itself 0 20 (t .seller .reference) (fitted-form 16 _ (test (capped t) form 16)),
+        text-itself 0 20 (t .seller .trader) (fitted-form 17 _ (test (capped t) form 17)),
+        text-itself 0 20 (t .cusip) (fitted-form 19 _ (test (capped t) form 19)),
+        text-itself 0 20 (t .pool) (fitted-form 20 _ (test (capped t) form 20)),
+        period-itself (t .period) (and-left _ _ (test (capped t) form 21)),
+        reason-itself (t .reason) (and-right (periodForm (periodOf (t .period))) _ (test (capped t) form 21)),
       )
 
 pub itself : Itself

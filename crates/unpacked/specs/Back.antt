@@ -2,7 +2,7 @@
 use Prim.Native.Nat.{ℕ, _+_, _*_}
 use mathlib.Core.Path.{_≡_}
 use mathlib.Core.Bool.{Bool, true, false, _&&_}
-use mathlib.Core.List.{List, [], _∷_, map}
+use mathlib.Core.List.{List, [], map}
 use lib.Dec.{leb, eqb}
 use lib.ListN.{length}
 use Rattle.text.specs.declared.Text.{Text}
@@ -12,10 +12,8 @@ use Rattle.trade.specs.declared.Period.{Period}
 use Rattle.trade.specs.declared.Trade.{Trade}
 use Rattle.values.specs.Writable.{hold}
 use Rattle.message.specs.Writing.{writingOf, writtenOver, writable}
-use Rattle.message.specs.declared.Writing.{Writing}
 use Rattle.packed.specs.Packed.{texts, numbers, packedOf}
 use Rattle.unpacked.specs.Unpacked.{unpackedOf}
-use Rattle.unpacked.specs.declared.Unpacked.{Unpacked}
 
 -- ---- every field has room in its place
 

@@ -1,17 +1,16 @@
 -- The MT515's layout has what the demands ask of one, by computation.
 -- Assumes nothing.
-use Prim.Native.Nat.{ℕ}
 use mathlib.Core.Path.{refl}
 use native.Mathlib.Omega.{arith}
 use Rattle.text.specs.Bytes.{bytes, begins, same, before}
 use Rattle.text.specs.Classes.{isBetween, isDigit, isUpper, isC, inClass, allIn, isCode}
-use Rattle.text.proofs.Printed.{printed}
+use Rattle.text.proofs.Printed.{printed, allPrinted}
 use Rattle.digits.specs.Numerals as Numerals
 use Rattle.amount.specs.Amounts.{amountRead, isAmount, whole}
 use Rattle.calendar.specs.Dates.{dateRead, dateFrom, momentRead, momentFrom}
 use Rattle.forms.specs.Forms.{isWord, wordAt, unless, formNumber, valueNumber}
 use Rattle.forms.specs.Narrative.{isNarrative}
-use Rattle.forms.proofs.Printing.{allPrinted, printedForm}
+use Rattle.forms.proofs.Printing.{printedForm}
 use Rattle.blocks.specs.Blocks.{isTagged, nameOf}
 use Rattle.sheets.specs.Slots.{fieldSlots, ownSlots, memberSlots, slotsOf, firstSlots, mustSlots}
 use Rattle.sheets.specs.Sheets.{has}

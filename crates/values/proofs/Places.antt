@@ -12,7 +12,7 @@ use lib.ListN.{length, take, drop, getD, set, length-append, length-set, drop-of
 use lib.Seq.{sets, sets-eq, take-at, drop-at, drop-cons, drop-length}
 use borrow.Author.Tests.{le-leb}
 use Rattle.text.specs.Copy.{over, fits, placed, after}
-use Rattle.text.proofs.Laws.{over-nil, length-placed}
+use Rattle.text.proofs.Laws.{put-none, length-placed}
 use Rattle.stretches.specs.Stretches.{between, stretchOf}
 use Rattle.fill.specs.Runs.{overRun, behindRun}
 use Rattle.fill.proofs.Runs.{then, flat-append, end-of, whole}
@@ -45,16 +45,7 @@ behind buf at vs ws es fs n m p q =
 
 -- where there is no value
 pub none-kept : (buf : List ℕ) (at : ℕ) → Kept buf at ([] ∷ []) at buf (at ∷ []) 0
-unfolding after placed
-none-kept buf at = kept buf at [] 0 (nothing-after (fits buf at []), nothing-placed (fits buf at []), omega arith)
-  where
-    nothing-after : (b : Bool) → at ≡ cond b (at + 0) at
-    nothing-after true = sym (add-zero at)
-    nothing-after false = refl
-
-    nothing-placed : (b : Bool) → buf ≡ cond b (over buf at []) buf
-    nothing-placed true = sym (over-nil buf at)
-    nothing-placed false = refl
+none-kept buf at = let n = put-none buf at in kept buf at [] 0 (n .0, n .1, omega arith)
 
 -- ---- places kept
 

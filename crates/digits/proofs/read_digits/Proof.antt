@@ -3,7 +3,7 @@
 use Rattle.digits.proofs.Laws.{digit-high}
 use Rattle.text.specs.Classes.{inClass}
 use Prim.Native.Nat.{_-_}
-use mathlib.Core.Path.{_≡_, sym, _∙_}
+use mathlib.Core.Path.{sym, _∙_}
 use lib.ListN.{length}
 use native.Mathlib.Omega.{arith}
 use borrow.Author.Needs.{needs}

@@ -1,5 +1,4 @@
 -- `digits::value` meets its contract. Assumes nothing.
-use native.Mathlib.Omega.{arith}
 use Rattle.text.specs.Classes.{inClass}
 use Rattle.digits.proofs.Laws.{digit-low}
 use borrow.Author.Needs.{needs}

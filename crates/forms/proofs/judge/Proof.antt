@@ -1,9 +1,7 @@
 -- `forms::judge` meets its contract. Assumes nothing.
-use Rattle.forms.specs.Slots.{slotAt}
-use mathlib.Core.Path.{_≡_, refl, sym, ap, _∙_}
+use mathlib.Core.Path.{refl, sym, _∙_}
 use borrow.Author.Tests.{not-true, not-false}
 use denote.Ref.{now}
-use Rattle.text.specs.Bytes.{begins}
 use Rattle.text.proofs.Laws.{begins-length}
 use Rattle.forms.proofs.Parts.{form-is, not-fixed, judged, unjudged}
 use borrow.Author.Needs.{needs}

@@ -5,7 +5,7 @@ use mathlib.Core.Path.{_≡_, refl, ap, _∙_}
 use native.Mathlib.Numerals.{add-one}
 use native.Mathlib.Omega.{arith}
 use borrow.Author.Needs.{needs}
-use Rattle.lines.specs.Lines.{lineAt, startBehind}
+use Rattle.lines.specs.Lines.{startBehind}
 use Rattle.lines.specs.declared.Line.{Line}
 use Rattle.lines.proofs.behind.Statement.{statement}
 use Rattle.lines.proofs.behind.Tie as tie

@@ -1,5 +1,5 @@
 -- `unpacked::unpack` meets its contract. Assumes nothing.
-use mathlib.Core.Path.{_≡_, _∙_}
+use mathlib.Core.Path.{_∙_}
 use Rattle.unpacked.specs.Unpacked.{unpackedOf}
 use borrow.Author.Needs.{needs}
 use Rattle.unpacked.proofs.unpack.Statement.{statement}

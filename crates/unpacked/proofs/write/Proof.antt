@@ -1,5 +1,4 @@
 -- `unpacked::write` meets its contract. Assumes nothing.
-use mathlib.Core.Path.{ap, _∙_}
 use borrow.Author.Needs.{needs}
 use Rattle.unpacked.proofs.write.Statement.{statement}
 use Rattle.unpacked.proofs.write.Tie as tie

@@ -1,5 +1,4 @@
 -- `packed::places::number_bytes` meets its contract. The loop's invariant: the first i bytes, and the bytes of the rest, are the number's. Assumes nothing.
-use borrow.Author.Needs.{needs}
 use native.Mathlib.Omega.{arith}
 use Prim.Native.Nat.{_-_, _≤_}
 use mathlib.Core.Path.{_≡_, refl}

@@ -2,8 +2,8 @@
 use borrow.Author.Needs.{needs}
 use native.Mathlib.Omega.{arith}
 use Prim.Native.Nat.{ℕ, suc, _+_, _*_, _-_, _^_, _≤_, _<_}
-use mathlib.Core.Path.{_≡_, refl}
-use lib.ListN.{length, drop, drop-of-length-le}
+use mathlib.Core.Path.{_≡_}
+use lib.ListN.{drop}
 use lib.Dec.{lit<}
 use Rattle.unpacked.specs.Unpacked.{numberFrom}
 use Rattle.unpacked.proofs.Bytes.{from-none, from-more, from-small, from-fits}

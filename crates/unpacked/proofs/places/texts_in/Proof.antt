@@ -1,5 +1,4 @@
 -- `unpacked::places::texts_in` meets its contract. The loop's invariant: the first i are right. Assumes nothing.
-use borrow.Author.Needs.{needs}
 use native.Mathlib.Omega.{arith}
 use Prim.Native.Nat.{_-_}
 use mathlib.Core.Path.{refl}
