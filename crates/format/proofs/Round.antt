@@ -231,7 +231,7 @@ module _ (F : Format) (L : Layout F) where
           rules = rules-kept;
         }
 
-    pub written-read : readOf F (messageOf F r) ≡ record { number = 0; line = 0; item = r }
+    pub written-read : readOf F (messageOf F r) ≡ record { number = 0; line = 0; held = r }
     written-read =
         let z = lawful-accepted F L W (messageOf F r) written-lawful in
         let l = filled-sheet (F .valueOf r) held-in in

@@ -1,5 +1,5 @@
 -- `plain::plain` meets its contract: the reading refuses, or its record is written. Assumes nothing.
-use Rattle.plain.proofs.Asking.{turned-away, passed-on}
+use Rattle.plain.proofs.Answers.{turned-away, passed-on}
 use borrow.Author.Needs.{needs}
 use Rattle.plain.proofs.plain.Statement.{statement}
 use Rattle.plain.proofs.plain.Tie as tie
