@@ -92,22 +92,24 @@ fn put_field(line: &mut [u8], at: usize, field: Text) -> usize
     text::put(line, end, b" ")
 }
 
-// Three fields, one behind the other.
-fn put_fields(line: &mut [u8], at: usize, first: Text, second: Text, third: Text) -> usize
-    ensures { λ r. ⌜ (r ≡ behindRun (now (line .entry)) at (parted (contents first) ++ (parted (contents second) ++ parted (contents third))))
-        × (now (line .exit) ≡ overRun (now (line .entry)) at (parted (contents first) ++ (parted (contents second) ++ parted (contents third)))) ⌝ }
+// The three numbers of a row.
+fn put_numbers(line: &mut [u8], row: Row) -> usize
+    ensures { λ r. ⌜ (r ≡ behindRun (now (line .entry)) 0 (parted (contents (row .message)) ++ (parted (contents (row .number)) ++ parted (contents (row .line)))))
+        × (now (line .exit) ≡ overRun (now (line .entry)) 0 (parted (contents (row .message)) ++ (parted (contents (row .number)) ++ parted (contents (row .line))))) ⌝ }
 {
-    let one = put_field(line, at, first);
-    let two = put_field(line, one, second);
-    put_field(line, two, third)
+    let number = put_field(line, 0, row.message);
+    let place = put_field(line, number, row.number);
+    put_field(line, place, row.line)
 }
 
 // The fields one behind the other; LF behind the last. They are seven texts, and a byte behind each.
 fn compose(line: &mut [u8], row: Row) -> usize
     ensures { λ r. ⌜ (r ≡ behindRun (now (line .entry)) 0 (partsOf row)) × (now (line .exit) ≡ overRun (now (line .entry)) 0 (partsOf row)) × (length (spaced (fieldsIn row)) ≤ 147) ⌝ }
 {
-    let kind = put_fields(line, 0, row.message, row.number, row.line);
-    let seller = put_fields(line, kind, row.kind, row.mast, row.buyer);
+    let kind = put_numbers(line, row);
+    let mast = put_field(line, kind, row.kind);
+    let buyer = put_field(line, mast, row.mast);
+    let seller = put_field(line, buyer, row.buyer);
     let end = text::put_text(line, seller, row.seller);
     text::put(line, end, b"\n")
 }

@@ -1,11 +1,7 @@
 -- The parts of a record that are gathered by themselves. They serve the private functions only, and need not be believed.
 use Rattle.trade.specs.declared.Trade.{Trade}
-use Rattle.trade.specs.declared.Links.{Links}
 use Rattle.trade.specs.declared.Details.{Details}
 use Rattle.trade.specs.declared.Security.{Security}
-
-unfoldable pub linksOf : Trade → Links
-linksOf t = record { mast = t .mast; prev = t .prev; list = t .list }
 
 unfoldable pub detailsOf : Trade → Details
 detailsOf t = record { trad = t .trad; sett = t .sett; price = t .price; side = t .side; kind = t .kind }

@@ -20,7 +20,7 @@ ghost use Rattle.amount.specs.Amounts.{amountRead};
 ghost use Rattle.calendar.specs.Dates.{dateRead, momentRead};
 ghost use Rattle.stretches.specs.Stretches.{stretchOf};
 ghost use Rattle.trade.specs.Records.{amountOr0, dateOr0, momentOr0, partyOf, tradeOf, blankTrade};
-ghost use Rattle.trade.specs.Parts.{linksOf, detailsOf, securityOf};
+ghost use Rattle.trade.specs.Parts.{detailsOf, securityOf};
 
 // The slots that are named; the others have the numbers of document 01's fields, of which the narrative is the last.
 pub const NARRATIVE: usize = 21;
@@ -86,14 +86,7 @@ pub struct Trade {
     pub reason: Text,
 }
 
-// The parts of a record that are gathered by themselves: what it is linked with,
-struct Links {
-    mast: Text,
-    prev: Text,
-    list: Text,
-}
-
-// the trade's details,
+// The parts of a record that are gathered by themselves: the trade's details,
 struct Details {
     trad: Moment,
     sett: Date,
@@ -214,17 +207,6 @@ fn party_at<'a, 'b>(
     }
 }
 
-// MAST, PREV and LIST.
-fn links_at<'a, 'b>(message: &'a [u8], starts: &'b [usize], ends: &'b [usize]) -> Links
-    ensures { λ r. ⌜ r ≡ linksOf (tradeOf (stretchOf (now (message .entry)) (now (starts .entry)) (now (ends .entry)))) ⌝ }
-{
-    Links {
-        mast: text_at(message, starts, ends, 4),
-        prev: text_at(message, starts, ends, 5),
-        list: text_at(message, starts, ends, 6),
-    }
-}
-
 // TRAD, SETT, DEAL, BUSE and PROC.
 fn details_at<'a, 'b>(message: &'a [u8], starts: &'b [usize], ends: &'b [usize]) -> Details
     ensures { λ r. ⌜ r ≡ detailsOf (tradeOf (stretchOf (now (message .entry)) (now (starts .entry)) (now (ends .entry)))) ⌝ }
@@ -257,7 +239,6 @@ fn security_at<'a, 'b>(message: &'a [u8], starts: &'b [usize], ends: &'b [usize]
 pub fn gather<'a, 'b>(message: &'a [u8], starts: &'b [usize], ends: &'b [usize]) -> Trade
     ensures { λ r. ⌜ r ≡ tradeOf (stretchOf (now (message .entry)) (now (starts .entry)) (now (ends .entry))) ⌝ }
 {
-    let Links { mast, prev, list } = links_at(message, starts, ends);
     let Details {
         trad,
         sett,
@@ -278,9 +259,9 @@ pub fn gather<'a, 'b>(message: &'a [u8], starts: &'b [usize], ends: &'b [usize])
         sender: text_at(message, starts, ends, SENDER),
         seme: text_at(message, starts, ends, 1),
         prep: moment_at(message, starts, ends, 3),
-        mast,
-        prev,
-        list,
+        mast: text_at(message, starts, ends, 4),
+        prev: text_at(message, starts, ends, 5),
+        list: text_at(message, starts, ends, 6),
         trad,
         sett,
         price,

@@ -8,11 +8,17 @@ use borrow.Author.Needs.{needs}
 use Rattle.listing.proofs.compose.Statement.{statement}
 use Rattle.listing.proofs.compose.Tie as tie
 
-put-fields-requires : tie.Need-put-fields-requires
-put-fields-requires c κs = search needs
+put-numbers-requires : tie.Need-put-numbers-requires
+put-numbers-requires c κs = search needs
 
-put-fields-requires-2 : tie.Need-put-fields-requires-2
-put-fields-requires-2 c κs = search needs
+put-field-requires : tie.Need-put-field-requires
+put-field-requires c κs = search needs
+
+put-field-requires-2 : tie.Need-put-field-requires-2
+put-field-requires-2 c κs = search needs
+
+put-field-requires-3 : tie.Need-put-field-requires-3
+put-field-requires-3 c κs = search needs
 
 put-text-requires : tie.Need-put-text-requires
 put-text-requires c κs = search needs
@@ -27,7 +33,7 @@ same-length : tie.Need-same-length
 same-length c = search needs
 
 -- a text has twenty bytes by its type
-short : (c : tie.After-put-fields) → Short (c .before .before .before .args .row)
+short : (c : tie.After-put-numbers) → Short (c .before .before .before .args .row)
 short c =
     record {
       message = search needs;
@@ -42,20 +48,26 @@ short c =
 returns : tie.Need-returns
 unfolding bytes partsOf
 returns c =
-    let last = c .before .before .before .before .before .before .before in
-    let three = last .before .before .before .before in
-    let numbers = three .before .before .before .before in
-    let run = then _ _ _ _ (numbers .put-fields .ensures)
-    (then _ _ _ _ (three .put-fields2 .ensures)
-    (then _ _ (_ ∷ []) (_ ∷ []) (one _ _ _ (last .put-text .ensures)) (one _ _ _ (c .before .before .put .ensures))))
+    let seller = c .before .before .before .before .before .before .before in
+    let buyer = seller .before .before .before .before in
+    let mast = buyer .before .before .before .before in
+    let kind = mast .before .before .before .before in
+    let numbers = kind .before .before .before .before in
+    let run = then _ _ _ _ (numbers .put-numbers .ensures)
+    (then _ _ _ _ (kind .put-field .ensures)
+    (then _ _ _ _ (mast .put-field2 .ensures)
+    (then _ _ _ _ (buyer .put-field3 .ensures)
+    (then _ _ (_ ∷ []) (_ ∷ []) (one _ _ _ (seller .put-text .ensures)) (one _ _ _ (c .before .before .put .ensures))))))
     in (run .0, run .1, row-short _ (short numbers))
 
 pub compose-spec : {M : Type 1} → statement M
 compose-spec =
     tie.close
     (tie.spec
-    put-fields-requires
-    put-fields-requires-2
+    put-numbers-requires
+    put-field-requires
+    put-field-requires-2
+    put-field-requires-3
     put-text-requires
     slice-aggregate-put
     put-requires

@@ -1,8 +1,8 @@
--- `listing::put_fields` meets its contract: field behind field. Assumes nothing.
+-- `listing::put_numbers` meets its contract: field behind field. Assumes nothing.
 use Rattle.fill.proofs.Runs.{then}
 use borrow.Author.Needs.{needs}
-use Rattle.listing.proofs.put_fields.Statement.{statement}
-use Rattle.listing.proofs.put_fields.Tie as tie
+use Rattle.listing.proofs.put_numbers.Statement.{statement}
+use Rattle.listing.proofs.put_numbers.Tie as tie
 
 put-field-requires : tie.Need-put-field-requires
 put-field-requires c κs = search needs
@@ -18,12 +18,12 @@ same-length c = search needs
 
 returns : tie.Need-returns
 returns c =
-    let third = c .before .before in
-    let second = third .before .before .before .before in
-    let first = second .before .before .before .before in
-    then _ _ _ _ (first .put-field .ensures) (then _ _ _ _ (second .put-field2 .ensures) (third .put-field3 .ensures))
+    let line = c .before .before in
+    let number = line .before .before .before .before in
+    let message = number .before .before .before .before in
+    then _ _ _ _ (message .put-field .ensures) (then _ _ _ _ (number .put-field2 .ensures) (line .put-field3 .ensures))
 
-pub put-fields-spec : {M : Type 1} → statement M
-put-fields-spec =
+pub put-numbers-spec : {M : Type 1} → statement M
+put-numbers-spec =
     tie.close
     (tie.spec put-field-requires put-field-requires-2 put-field-requires-3 same-length returns)
