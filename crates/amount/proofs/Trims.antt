@@ -18,7 +18,7 @@ use Rattle.text.specs.declared.Class.the-variants.{Digit}
 use Rattle.text.proofs.Laws.{and-left, and-right, all-append, before-of, before-split}
 use Rattle.digits.specs.Numerals.{numeral, numeralFrom}
 use Rattle.digits.proofs.Laws.{numeral-append}
-use Rattle.amount.specs.Amounts.{whole, decimals, trimmed, joined, shortened, noughts}
+use Rattle.amount.specs.Amounts.{whole, decimals, trimmed, keptBefore, shortened, noughts}
 
 -- ---- the comma
 
@@ -65,17 +65,17 @@ trim-is (b ∷ c ∷ s) = go (trim-is (c ∷ s)) (eqb b 48) refl
 
 -- ---- the noughts at the end
 
-joined-some : (a : ℕ) (x : List ℕ) (b : ℕ) → joined a (x ++ b ∷ []) ≡ a ∷ (x ++ b ∷ [])
-unfolding joined
+joined-some : (a : ℕ) (x : List ℕ) (b : ℕ) → keptBefore a (x ++ b ∷ []) ≡ a ∷ (x ++ b ∷ [])
+unfolding keptBefore
 joined-some a [] b = refl
 joined-some a (c ∷ x) b = refl
 
 pub shortened-snoc : (x : List ℕ) (b : ℕ) → shortened (x ++ b ∷ []) ≡ cond (eqb b 48) (shortened x) (x ++ b ∷ [])
-unfolding shortened joined
+unfolding shortened keptBefore
 shortened-snoc [] b = refl
 shortened-snoc (a ∷ x) b = rw (shortened-snoc x b) (go (eqb b 48))
   where
-    go : (t : Bool) → joined a (cond t (shortened x) (x ++ b ∷ [])) ≡ cond t (joined a (shortened x)) (a ∷ (x ++ b ∷ []))
+    go : (t : Bool) → keptBefore a (cond t (shortened x) (x ++ b ∷ [])) ≡ cond t (keptBefore a (shortened x)) (a ∷ (x ++ b ∷ []))
     go true = refl
     go false = joined-some a x b
 
@@ -86,15 +86,15 @@ pub record Ends (x : List ℕ) : Type 0 where
   pub is : x ≡ front ++ last ∷ []
   pub some : last ≡ 48 → ⊥
 
-joined-ends : (b : ℕ) (x : List ℕ) → (x ≡ []) ⊎ Ends x → (joined b x ≡ []) ⊎ Ends (joined b x)
-unfolding joined
+joined-ends : (b : ℕ) (x : List ℕ) → (x ≡ []) ⊎ Ends x → (keptBefore b x ≡ []) ⊎ Ends (keptBefore b x)
+unfolding keptBefore
 joined-ends b x (inl e) = rw e (go (eqb b 48) refl)
   where
     go : (t : Bool) → eqb b 48 ≡ t → (cond t [] (b ∷ []) ≡ []) ⊎ Ends (cond t [] (b ∷ []))
     go true t = inl refl
     go false t = inr (record { front = []; last = b; is = refl; some = eqb-false b 48 t })
 joined-ends b x (inr w) =
-    inr (record { front = b ∷ w .front; last = w .last; is = ap (joined b) (w .is) ∙ joined-some b (w .front) (w .last); some = w .some })
+    inr (record { front = b ∷ w .front; last = w .last; is = ap (keptBefore b) (w .is) ∙ joined-some b (w .front) (w .last); some = w .some })
 
 pub shortened-ends : (f : List ℕ) → (shortened f ≡ []) ⊎ Ends (shortened f)
 unfolding shortened
@@ -114,8 +114,8 @@ pub record Tail (f x : List ℕ) : Type 0 where
   pub count : ℕ
   pub is : f ≡ x ++ replicate {A = ℕ} count 48
 
-joined-tail : (b : ℕ) (s x : List ℕ) → Tail s x → Tail (b ∷ s) (joined b x)
-unfolding joined
+joined-tail : (b : ℕ) (s x : List ℕ) → Tail s x → Tail (b ∷ s) (keptBefore b x)
+unfolding keptBefore
 joined-tail b s [] w = go (eqb b 48) refl
   where
     go : (t : Bool) → eqb b 48 ≡ t → Tail (b ∷ s) (cond t [] (b ∷ []))

@@ -38,14 +38,14 @@ trimmed (b ∷ []) = b ∷ []
 trimmed (b ∷ c ∷ s) = cond (eqb b 48) (trimmed (c ∷ s)) (b ∷ c ∷ s)
 
 -- a nought in front of what is left of the decimals goes with them where nothing is left
-unfoldable pub joined : ℕ → List ℕ → List ℕ
-joined b [] = cond (eqb b 48) [] (b ∷ [])
-joined b (c ∷ s) = b ∷ c ∷ s
+unfoldable pub keptBefore : ℕ → List ℕ → List ℕ
+keptBefore b [] = cond (eqb b 48) [] (b ∷ [])
+keptBefore b (c ∷ s) = b ∷ c ∷ s
 
 -- without the noughts at the end of the decimals
 unfoldable pub shortened : List ℕ → List ℕ
 shortened [] = []
-shortened (b ∷ s) = joined b (shortened s)
+shortened (b ∷ s) = keptBefore b (shortened s)
 
 unfoldable pub tidy : List ℕ → List ℕ
 tidy s = trimmed (whole s) ++ 44 ∷ shortened (decimals s)

@@ -16,7 +16,7 @@ use Rattle.layout.specs.Rows.{Row, field, opens, closes, many, mark, back, ends
 use Rattle.layout.proofs.Laws.{row-next, row-none, row-at, text-at}
 use Rattle.sheets.specs.Filled.{some}
 use Rattle.fill.specs.Runs.{overRun, behindRun}
-use Rattle.fill.specs.Filling.{isAny, ended, heldParts, lower, deeper, hasValue, anyRows, stands, opener, puts, walk}
+use Rattle.fill.specs.Filling.{isAny, withEnding, heldParts, lower, deeper, hasValue, anyRows, stands, opener, puts, walk}
 use Rattle.fill.specs.Steps.{isOn, nextParts, nextOff}
 use Rattle.fill.proofs.Runs.{Run, over-append, behind-append, length-run}
 use Rattle.fill.proofs.Trees.{any-none}
@@ -124,12 +124,12 @@ module _ (s : ℕ) (k : List ℕ) where
   pub puts-by : (parts : ℕ → List (List ℕ)) (first : List ℕ) (n : ℕ)
       → puts parts first (rowOf n s k)
       ≡ cond (isAny (1 ∷ 2 ∷ []) n) (heldParts parts s k)
-      (cond (isAny (3 ∷ 4 ∷ []) n) (ended k) (cond (isAny (5 ∷ 9 ∷ []) n) (ended k) (cond (eqb n 8) (puts parts first (rowOf 8 s k)) [])))
+      (cond (isAny (3 ∷ 4 ∷ []) n) (withEnding k) (cond (isAny (5 ∷ 9 ∷ []) n) (withEnding k) (cond (eqb n 8) (puts parts first (rowOf 8 s k)) [])))
   unfolding puts rowOf
   puts-by parts first n =
       by-kind (λ m r. puts parts first r
       ≡ cond (isAny (1 ∷ 2 ∷ []) m) (heldParts parts s k)
-      (cond (isAny (3 ∷ 4 ∷ []) m) (ended k) (cond (isAny (5 ∷ 9 ∷ []) m) (ended k) (cond (eqb m 8) (puts parts first (rowOf 8 s k)) [])))) s k
+      (cond (isAny (3 ∷ 4 ∷ []) m) (withEnding k) (cond (isAny (5 ∷ 9 ∷ []) m) (withEnding k) (cond (eqb m 8) (puts parts first (rowOf 8 s k)) [])))) s k
       refl refl refl refl refl refl refl refl refl refl
       (λ m h. rw (none-above (1 ∷ 2 ∷ []) m refl h, none-above (3 ∷ 4 ∷ []) m refl h, none-above (5 ∷ 9 ∷ []) m refl h, ne-eqb m 8 (λ z. let w : ⊥ = omega arith in w))) n
 

@@ -11,7 +11,7 @@ use Rattle.sheets.specs.Trees.{Field, Member, Tree, last, line, block, group, f
 use Rattle.sheets.specs.Sheets.{Entry, edge, item, lineOf, linesIn}
 use Rattle.sheets.specs.Filled.{some, anyField, anyMember, anyIn, filledFields, filledMembers, filled}
 use Rattle.sheets.proofs.Order.{lines-both}
-use Rattle.fill.specs.Filling.{ended, heldParts, lower, deeper, hasValue, anyRows, stands, opener, puts, walk, Lent, frontAt, valueAt, behindAt, partsAt, filling}
+use Rattle.fill.specs.Filling.{withEnding, heldParts, lower, deeper, hasValue, anyRows, stands, opener, puts, walk, Lent, frontAt, valueAt, behindAt, partsAt, filling}
 use Rattle.fill.proofs.Runs.{flat-append}
 
 -- ---- lines joined
@@ -91,7 +91,7 @@ module _ (value : ℕ → List ℕ) (parts : ℕ → List (List ℕ)) (same : (s
   abbrev out : List ℕ → ℕ → List Row → List ℕ
   out first off rows = flatten (walk value parts first off rows)
 
-  edge-flat : (o : List ℕ) (rest : List (List ℕ)) → flatten (ended o ++ rest) ≡ o ++ (bytes "\r\n" ++ flatten rest)
+  edge-flat : (o : List ℕ) (rest : List (List ℕ)) → flatten (withEnding o ++ rest) ≡ o ++ (bytes "\r\n" ++ flatten rest)
   unfolding flatten
   edge-flat o rest = refl
 
@@ -170,7 +170,7 @@ module _ (value : ℕ → List ℕ) (parts : ℕ → List (List ℕ)) (same : (s
   -- a block, where what it holds and what is left behind it are put
   block-out : (b : Bool) (o : List ℕ) (t : Tree) (first : List ℕ) (rows : List Row) (es ds : List Entry) (rest : List ℕ)
       → out first zero (rowsIn t rows) ≡ text es ++ out (openerIn first t) zero rows → out (openerIn first t) zero rows ≡ text ds ++ rest
-      → flatten (cond b (ended o ++ walk value parts first zero (rowsIn t rows)) (walk value parts first 1 (rowsIn t rows)))
+      → flatten (cond b (withEnding o ++ walk value parts first zero (rowsIn t rows)) (walk value parts first 1 (rowsIn t rows)))
       ≡ text (cond b (edge o ∷ (es ++ ds)) ds) ++ rest
   block-out true o t first rows es ds rest h k =
       edge-flat o (walk value parts first zero (rowsIn t rows))

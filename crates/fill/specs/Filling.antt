@@ -90,8 +90,8 @@ stands value rows ends = true
 -- ---- what the rows put
 
 -- the first or last line of a block, and the line of a slot
-abbrev pub ended : List ℕ → List (List ℕ)
-ended l = l ∷ bytes "\r\n" ∷ []
+abbrev pub withEnding : List ℕ → List (List ℕ)
+withEnding l = l ∷ bytes "\r\n" ∷ []
 
 abbrev pub heldParts : (ℕ → List (List ℕ)) → ℕ → List ℕ → List (List ℕ)
 heldParts parts slot key = key ∷ (parts slot ++ (bytes "\r\n" ∷ []))
@@ -109,11 +109,11 @@ opener first ends = first
 -- what a row that stands puts
 unfoldable pub puts : (ℕ → List (List ℕ)) → List ℕ → Row → List (List ℕ)
 puts parts first (field m s k) = heldParts parts s k
-puts parts first (opens m o) = ended o
-puts parts first (closes c) = ended c
+puts parts first (opens m o) = withEnding o
+puts parts first (closes c) = withEnding c
 puts parts first (many n a o) = []
 puts parts first (mark s k) = first ∷ bytes "\r\n" ∷ heldParts parts s k
-puts parts first (back c) = ended c
+puts parts first (back c) = withEnding c
 puts parts first ends = []
 
 -- what all put; `off` counts the blocks since one that does not stand

@@ -5,7 +5,7 @@ ghost use mathlib.Core.Bool.{_&&_};
 ghost use lib.Dec.{eqb};
 ghost use Rattle.stretches.specs.Stretches.{stretchOf};
 ghost use Rattle.fill.specs.Runs.{overRun, behindRun};
-ghost use Rattle.fill.specs.Filling.{isAny, fixedIn, ended};
+ghost use Rattle.fill.specs.Filling.{isAny, fixedIn, withEnding};
 ghost use Rattle.fill.specs.Steps.{lineParts, putsOf};
 
 // A number is one of two.
@@ -54,7 +54,7 @@ pub(crate) fn front<'a, 'b>(
 
 // The first or last line of a block.
 fn put_edge(buf: &mut [u8], at: usize, key: &[u8]) -> usize
-    ensures { λ r. ⌜ (r ≡ behindRun (now (buf .entry)) at (ended (now (key .entry)))) × (now (buf .exit) ≡ overRun (now (buf .entry)) at (ended (now (key .entry)))) ⌝ }
+    ensures { λ r. ⌜ (r ≡ behindRun (now (buf .entry)) at (withEnding (now (key .entry)))) × (now (buf .exit) ≡ overRun (now (buf .entry)) at (withEnding (now (key .entry)))) ⌝ }
 {
     let end = text::put(buf, at, key);
     text::put(buf, end, b"\r\n")

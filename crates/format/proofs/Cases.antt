@@ -25,7 +25,7 @@ use Rattle.format.specs.Specimen as Specimen
 use Rattle.format.specs.Cases.{records, outside, refusals, Answered}
 
 pub answered : Answered
-unfolding bytes begins same before isBetween isDigit isUpper isC inClass allIn inFront cutBehind bare withoutEnding linesOf ended joined sizePass mayStand bytePass endPass linesPass refused pass then when Amounts.whole Amounts.decimals Amounts.isAmount Amounts.trimmed Amounts.joined Amounts.shortened Amounts.tidy Amounts.meaningOf Amounts.meaning Amounts.amountRead numeralFrom numeral isTagged nameOf named roleOf ending opening closing turn follow nest nestPass isCode wordAt isWord unless formNumber valueNumber withTaken fit next seek laterField tell moveOf following walk takenBy chain lacking fieldSlots ownSlots memberSlots slotsOf firstSlots mustSlots lineOf linesIn has some anyField anyMember anyIn filledFields filledMembers filled valueVerdict valuesPass bodyPass takenIn valueFrom headVerdict headPass headValue every optional reading bodyOf valueOn rulesOf verdictOf readOf behindIn headLine linesFor messageOf judgeOf tidied Specimen.slots Specimen.slotOf Specimen.header Specimen.general Specimen.commission Specimen.settlement Specimen.status Specimen.tree Specimen.named Specimen.recordOf Specimen.beside Specimen.valueOf Specimen.alike Specimen.isFilled Specimen.together Specimen.inForm records outside refusals
+unfolding bytes begins same before isBetween isDigit isUpper isC inClass allIn inFront cutBehind bare withoutEnding linesOf ended joined sizePass mayStand bytePass endPass linesPass refused pass then when Amounts.whole Amounts.decimals Amounts.isAmount Amounts.trimmed Amounts.keptBefore Amounts.shortened Amounts.tidy Amounts.meaningOf Amounts.meaning Amounts.amountRead numeralFrom numeral isTagged nameOf named roleOf ending opening closing turn follow nest nestPass isCode wordAt isWord unless formNumber valueNumber withTaken fit next seek laterField tell moveOf following walk takenBy chain lacking fieldSlots ownSlots memberSlots slotsOf firstSlots mustSlots lineOf linesIn has some anyField anyMember anyIn filledFields filledMembers filled valueVerdict valuesPass bodyPass takenIn valueFrom headVerdict headPass headValue every optional reading bodyOf valueOn rulesOf verdictOf readOf behindIn headLine linesFor messageOf judgeOf tidied Specimen.slots Specimen.slotOf Specimen.header Specimen.general Specimen.commission Specimen.settlement Specimen.status Specimen.tree Specimen.named Specimen.recordOf Specimen.beside Specimen.valueOf Specimen.alike Specimen.isFilled Specimen.together Specimen.inForm records outside refusals
 answered =
     record {
       in-form = refl;

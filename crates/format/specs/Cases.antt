@@ -13,8 +13,8 @@ use Rattle.format.specs.Demands.{accepts}
 use Rattle.format.specs.Specimen.{specimen}
 
 -- a record by its values for SEME, CATB, SETT, MAST, PREV, SETR, LOCO, MTCH and REAS, behind those of the header
-abbrev held : List String → List (List ℕ)
-held vs = map bytes ("SECRET" ∷ "0017" ∷ "" ∷ "" ∷ vs)
+abbrev recordWith : List String → List (List ℕ)
+recordWith vs = map bytes ("SECRET" ∷ "0017" ∷ "" ∷ "" ∷ vs)
 
 -- the lines of a message by those behind the header
 abbrev lines : List String → List (List ℕ)
@@ -142,10 +142,10 @@ refusals =
 
 pub record Answered : Type 0 where
   -- each record is in form and has the lines beside it, and its message is read as that record
-  pub in-form : map (λ row. judgeOf specimen (held (row .0))) records ≡ map (λ row. 0) records
-  pub lines-are : map (λ row. linesFor specimen (held (row .0))) records ≡ map (λ row. lines (row .1)) records
-  pub read-back : map (λ row. readOf specimen (messageOf specimen (held (row .0)))) records ≡ map (λ row. accepts specimen (held (row .0))) records
+  pub in-form : map (λ row. judgeOf specimen (recordWith (row .0))) records ≡ map (λ row. 0) records
+  pub lines-are : map (λ row. linesFor specimen (recordWith (row .0))) records ≡ map (λ row. lines (row .1)) records
+  pub read-back : map (λ row. readOf specimen (messageOf specimen (recordWith (row .0)))) records ≡ map (λ row. accepts specimen (recordWith (row .0))) records
   -- each of the others gets 18
-  pub out-of-form : map (λ row. judgeOf specimen (held row)) outside ≡ map (λ row. 18) outside
+  pub out-of-form : map (λ row. judgeOf specimen (recordWith row)) outside ≡ map (λ row. 18) outside
   -- each message gets the number and line beside it
   pub refused-are : map (λ row. verdictOf specimen (joined (lines (row .0)))) refusals ≡ map (λ row. refused (row .1) (row .2)) refusals

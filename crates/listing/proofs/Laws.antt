@@ -20,7 +20,7 @@ use Rattle.values.specs.Values.{kindWord}
 use Rattle.values.proofs.Widths.{contents-short, kind-four}
 use Rattle.mt515.specs.declared.Reading.{Reading}
 use Rattle.fill.proofs.Runs.{Put, Run, two, measured, in-front, length-run, whole}
-use Rattle.listing.specs.Rows.{spaced, decimal, shown, told, untold, fieldsOf, rowOf}
+use Rattle.listing.specs.Rows.{spaced, decimal, shown, told, untold, fieldsOf, printedRow}
 use Rattle.listing.specs.Composed.{fieldsIn, partsOf}
 use Rattle.listing.specs.declared.Row.{Row}
 
@@ -112,8 +112,8 @@ row-short row s =
 -- what was composed in a line of that length stands in front of it, and is the row
 module _ (message : ℕ) (r : Reading) (row : Row) (is : fieldsIn row ≡ fieldsOf message r) (line : List ℕ) (long : length line ≡ 147)
     {e : ℕ} {now : List ℕ} (run : Run line 0 (partsOf row) e now) (short : length (spaced (fieldsIn row)) ≤ 147) where
-  row-is : spaced (fieldsIn row) ≡ rowOf message r
-  unfolding rowOf
+  row-is : spaced (fieldsIn row) ≡ printedRow message r
+  unfolding printedRow
   row-is = ap spaced is
 
   put-whole : Put line 0 (spaced (fieldsIn row)) e now
@@ -129,10 +129,10 @@ module _ (message : ℕ) (r : Reading) (row : Row) (is : fieldsIn row ≡ fields
   pub now-long : length now ≡ 147
   now-long = ap length (run .1) ∙ length-run (partsOf row) line 0 ∙ long
 
-  pub stands : take e now ≡ rowOf message r
+  pub stands : take e now ≡ printedRow message r
   stands = in-front line (spaced (fieldsIn row)) put-whole (omega arith) ∙ row-is
 
-  pub row-most : length (rowOf message r) ≤ 147
+  pub row-most : length (printedRow message r) ≤ 147
   row-most = let l = ap length row-is in omega arith
 
 -- ---- the fields of a reading

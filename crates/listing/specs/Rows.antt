@@ -42,5 +42,5 @@ untold = bytes "-" ∷ bytes "-" ∷ bytes "-" ∷ bytes "-" ∷ []
 unfoldable pub fieldsOf : ℕ → Reading → List (List ℕ)
 fieldsOf message r = decimal message ∷ decimal (r .number) ∷ decimal (r .line) ∷ cond (eqb (r .number) 0) (told (r .trade)) untold
 
-unfoldable pub rowOf : ℕ → Reading → List ℕ
-rowOf message r = spaced (fieldsOf message r)
+unfoldable pub printedRow : ℕ → Reading → List ℕ
+printedRow message r = spaced (fieldsOf message r)

@@ -13,7 +13,7 @@ ghost use Rattle.text.specs.Copy.{placed, after};
 ghost use Rattle.text.specs.Texts.{contents};
 ghost use Rattle.values.specs.Values.{kindWord};
 ghost use Rattle.fill.specs.Runs.{overRun, behindRun};
-ghost use Rattle.listing.specs.Rows.{spaced, heading, decimal, shown, fieldsOf, rowOf};
+ghost use Rattle.listing.specs.Rows.{spaced, heading, decimal, shown, fieldsOf, printedRow};
 ghost use Rattle.listing.specs.Composed.{fieldsIn, parted, partsOf};
 
 // The seven fields of a row.
@@ -124,7 +124,7 @@ pub fn put_heading(buf: &mut [u8]) -> usize
 // Puts the row of a message, given its place in the batch and its reading, at the start of a lent buffer, as `text::put` puts a
 // part. A buffer of 147 bytes has room for every row.
 pub fn put_row(buf: &mut [u8], message: u64, reading: Reading) -> usize
-    ensures { λ r. ⌜ (r ≡ after (now (buf .entry)) 0 (rowOf message reading)) × (now (buf .exit) ≡ placed (now (buf .entry)) 0 (rowOf message reading)) × (length (rowOf message reading) ≤ 147) ⌝ }
+    ensures { λ r. ⌜ (r ≡ after (now (buf .entry)) 0 (printedRow message reading)) × (now (buf .exit) ≡ placed (now (buf .entry)) 0 (printedRow message reading)) × (length (printedRow message reading) ≤ 147) ⌝ }
 {
     let row = row_of(message, reading);
     let mut line = [0u8; 147];
