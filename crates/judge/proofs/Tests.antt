@@ -1,4 +1,5 @@
--- The mathematics of the crate's functions: tests by stretches of their list, and the first of the numbers.
+-- The mathematics of the crate's functions: the widths of the code's texts are those of their slots, tests by stretches of their
+-- list, and the first of the numbers.
 -- Assumes nothing.
 use Prim.Native.Nat.{ℕ, zero, suc, _+_, _≤_, _<_}
 use mathlib.Core.Path.{_≡_, refl, sym, ap, _∙_}
