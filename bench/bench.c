@@ -13,13 +13,15 @@
 
 enum { MOST_RUNS = 1001 };
 
-static struct messages messages;
+static struct messages messages, refused;
 static uint8_t records[MESSAGES][MT515_RECORD];     /* of the messages, for writing */
 static struct record second_records[MESSAGES];
 static uint8_t out[MT515_LONGEST], second_out[MT515_LONGEST];
 
-static const uint8_t *message(size_t i) { return messages.batch + messages.start[i]; }
-static size_t length_of(size_t i) { return messages.start[i + 1] - messages.start[i]; }
+static const uint8_t *message_in(const struct messages *in, size_t i) { return in->batch + in->start[i]; }
+static size_t length_in(const struct messages *in, size_t i) { return in->start[i + 1] - in->start[i]; }
+static const uint8_t *message(size_t i) { return message_in(&messages, i); }
+static size_t length_of(size_t i) { return length_in(&messages, i); }
 
 /* ---------------------------------------------------------------- the same answers */
 
@@ -59,6 +61,21 @@ static void compare(size_t i)
     compare_fields(i);
 }
 
+/* Of a refused message, number and line; it is one that both refuse. */
+static void compare_refused(size_t i)
+{
+    uint8_t record[MT515_RECORD];
+    struct record second_record;
+    size_t line;
+    uint8_t number = mt515_read(message_in(&refused, i), length_in(&refused, i), record, &line);
+    struct answer a = second_read(message_in(&refused, i), length_in(&refused, i), &second_record);
+    demand(number == a.number && line == a.line, i, "a refused read");
+    if (number == ACCEPTED) {
+        printf("message %zu was to be refused, and is accepted\n", i);
+        exit(1);
+    }
+}
+
 /* ---------------------------------------------------------------- what is measured */
 
 /* Adds an answer to a sum in which the order counts, so that no call can be left out. */
@@ -67,28 +84,31 @@ static uint64_t add(uint64_t sum, uint64_t a, uint64_t b)
     return sum * 31 + a * 1000 + b;
 }
 
-static uint64_t first_read(size_t step)
+static uint64_t read_all(const struct messages *in, uint64_t sum)
 {
-    uint64_t sum = step;
     uint8_t record[MT515_RECORD];
     for (size_t i = 0; i < MESSAGES; i++) {
         size_t line;
-        uint8_t number = mt515_read(message(i), length_of(i), record, &line);
+        uint8_t number = mt515_read(message_in(in, i), length_in(in, i), record, &line);
         sum = add(sum, number + line, record[MT515_AT_KIND]);
     }
     return sum;
 }
 
-static uint64_t second_program_read(size_t step)
+static uint64_t second_read_all(const struct messages *in, uint64_t sum)
 {
-    uint64_t sum = step;
     struct record record;
     for (size_t i = 0; i < MESSAGES; i++) {
-        struct answer a = second_read(message(i), length_of(i), &record);
+        struct answer a = second_read(message_in(in, i), length_in(in, i), &record);
         sum = add(sum, (uint64_t)a.number + a.line, (uint64_t)record.kind);
     }
     return sum;
 }
+
+static uint64_t first_read(size_t step) { return read_all(&messages, step); }
+static uint64_t second_program_read(size_t step) { return second_read_all(&messages, step); }
+static uint64_t first_refused(size_t step) { return read_all(&refused, step); }
+static uint64_t second_program_refused(size_t step) { return second_read_all(&refused, step); }
 
 static uint64_t first_plain(size_t step)
 {
@@ -201,10 +221,12 @@ static struct row {
     const char *name;
     work *first, *second;
     size_t step;
+    const struct messages *in;      /* where they are not the accepted ones */
     uint64_t sum;
     double times[MOST_RUNS], second_times[MOST_RUNS];
 } rows[] = {
     { .name = "reading", .first = first_read, .second = second_program_read },
+    { .name = "a refused read", .first = first_refused, .second = second_program_refused, .in = &refused },
     { .name = "plain form", .first = first_plain, .second = second_program_plain },
     { .name = "one field", .first = first_field, .second = second_program_field },
     { .name = "writing", .first = first_write, .second = second_program_write },
@@ -262,18 +284,19 @@ static double median(double *times, size_t runs)
     return times[runs / 2] / MESSAGES;
 }
 
-static double megabytes_a_second(double nanoseconds)
+static double megabytes_a_second(const struct row *row, double nanoseconds)
 {
-    return (double)messages.start[MESSAGES] / MESSAGES / nanoseconds * 1e3;
+    const struct messages *in = row->in ? row->in : &messages;
+    return (double)in->start[MESSAGES] / MESSAGES / nanoseconds * 1e3;
 }
 
 static void print_row(struct row *row, size_t runs)
 {
     double first = median(row->times, runs);
-    printf("%-26s %8.0f %8.0f", row->name, first, megabytes_a_second(first));
+    printf("%-26s %8.0f %8.0f", row->name, first, megabytes_a_second(row, first));
     if (row->second) {
         double second = median(row->second_times, runs);
-        printf(" %10.0f %8.0f %9.2f", second, megabytes_a_second(second), first / second);
+        printf(" %10.0f %8.0f %9.2f", second, megabytes_a_second(row, second), first / second);
     }
     putchar('\n');
 }
@@ -287,8 +310,11 @@ int main(int count, char **words)
         return 2;
     }
     make_messages(&messages, seed);
-    for (size_t i = 0; i < MESSAGES; i++)
+    make_refused(&refused, &messages, seed);
+    for (size_t i = 0; i < MESSAGES; i++) {
         compare(i);
+        compare_refused(i);
+    }
     for (size_t i = 0; i < ROWS; i++)
         rows[i].sum = rows[i].first(rows[i].step);
     for (size_t run = 0; run < runs; run++)

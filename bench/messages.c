@@ -198,19 +198,122 @@ static void details(struct pen *pen)
     line(pen, ":16S:CONFDET");
 }
 
+/* What message number so many is like. */
+static void turn(struct pen *pen, size_t number)
+{
+    pen->kind = (enum kind)(number % 4);
+    pen->wide = number / 4 % 2 == 1;
+    pen->crlf = number / 8 % 2 == 1;
+    pen->turned = number / 16 % 2 == 1;
+}
+
 void make_messages(struct messages *messages, uint64_t seed)
 {
     struct pen pen = { .at = messages->batch, .state = seed * 2 + 1 };
     for (size_t i = 0; i < MESSAGES; i++) {
         messages->start[i] = (size_t)(pen.at - messages->batch);
-        pen.kind = (enum kind)(i % 4);
-        pen.wide = i / 4 % 2 == 1;
-        pen.crlf = i / 8 % 2 == 1;
-        pen.turned = i / 16 % 2 == 1;
+        turn(&pen, i);
         header(&pen);
         general(&pen);
         details(&pen);
         line(&pen, "-");
     }
     messages->start[MESSAGES] = (size_t)(pen.at - messages->batch);
+}
+
+/* ---------------------------------------------------------------- faults
+ * Each is put into the message that runs from `from` to where the pen stands. No fault makes it longer. */
+
+/* A line, with its ending. */
+struct span {
+    uint8_t *from, *to;
+};
+
+/* The line that a byte stands in. */
+static struct span line_of(uint8_t *from, uint8_t *byte)
+{
+    struct span line = { byte, byte };
+    while (line.from > from && line.from[-1] != '\n')
+        line.from--;
+    while (*line.to++ != '\n')
+        continue;
+    return line;
+}
+
+/* Any byte but those of the last line, which is `-`. */
+static uint8_t *any_byte(struct pen *pen, uint8_t *from)
+{
+    return from + below(pen, (unsigned)(pen->at - from - (pen->crlf ? 3 : 2)));
+}
+
+static bool begins(const uint8_t *at, const char *text) { return memcmp(at, text, strlen(text)) == 0; }
+
+static void wrong_byte(struct pen *pen, uint8_t *from)
+{
+    uint8_t *byte = any_byte(pen, from);
+    *byte = (uint8_t)(0x80 + below(pen, 0x80));
+}
+
+/* Where the message may do without the line, the one behind it goes, which is never such a line. */
+static void missing_line(struct pen *pen, uint8_t *from)
+{
+    struct span gone = line_of(from, any_byte(pen, from));
+    while (begins(gone.from, ":98C::PREP") || begins(gone.from, ":70C:"))
+        gone = line_of(from, gone.to);
+    memmove(gone.from, gone.to, (size_t)(pen->at - gone.to));
+    pen->at -= gone.to - gone.from;
+}
+
+/* The last byte of a line that is a field; no value may have this one. */
+static void bad_value(struct pen *pen, uint8_t *from)
+{
+    struct span field = line_of(from, any_byte(pen, from));
+    while (!begins(field.from, ":") || begins(field.from, ":16"))
+        field = line_of(from, any_byte(pen, from));
+    field.to[pen->crlf ? -3 : -2] = '*';
+}
+
+static void exchanged_lines(struct pen *pen, uint8_t *from)
+{
+    uint8_t kept[64];
+    struct span first = line_of(from, any_byte(pen, from)), second = line_of(from, first.to);
+    size_t width = (size_t)(first.to - first.from), of_second = (size_t)(second.to - second.from);
+    memcpy(kept, first.from, width);
+    memmove(first.from, second.from, of_second);
+    memcpy(first.from + of_second, kept, width);
+}
+
+/* What stands behind a text that the message has. */
+static uint8_t *behind(uint8_t *from, const char *text)
+{
+    while (!begins(from, text))
+        from++;
+    return from + strlen(text);
+}
+
+/* Another kind (a field is missing, or 23G is against it), 23G against the kind, par zero, settled before the trade. */
+static void broken_rule(struct pen *pen, uint8_t *from)
+{
+    switch (below(pen, 4)) {
+    case 0: memcpy(behind(from, ":22F::PROC/GSCC/"), pen->kind == TDDK ? "INST" : "TDDK", 4); return;
+    case 1: memcpy(behind(from, ":23G:"), pen->kind == CANC ? "NEWM" : "CANC", 4); return;
+    case 2: from = behind(from, ":36B::CONF//FAMT/"); memset(from, '0', strcspn((char *)from, ",")); return;
+    default: memcpy(behind(from, ":98A::SETT//"), "20240228", 8); return;
+    }
+}
+
+void make_refused(struct messages *refused, const struct messages *messages, uint64_t seed)
+{
+    static void (*const faults[])(struct pen *pen, uint8_t *from) = { wrong_byte, missing_line, bad_value, exchanged_lines, broken_rule };
+    struct pen pen = { .at = refused->batch, .state = seed * 2 + 1 };
+    for (size_t i = 0; i < MESSAGES; i++) {
+        size_t length = messages->start[i + 1] - messages->start[i];
+        uint8_t *from = pen.at;
+        refused->start[i] = (size_t)(from - refused->batch);
+        turn(&pen, i);
+        memcpy(from, messages->batch + messages->start[i], length);
+        pen.at += length;
+        faults[i % 5](&pen, from);
+    }
+    refused->start[MESSAGES] = (size_t)(pen.at - refused->batch);
 }

@@ -4,7 +4,8 @@
 Every `pub fn` of every crate's sources has an `ensures` and no `requires`, but for the functions that docs/PROMISES.md lists
 under "## Functions with a requires", each with its reason; and every one of them is named in that file. So is every must-fail
 edit, by its name, whether the gate tries it or tests/edits. An `ensures` has an equation for the answer, and one for what each
-buffer lent to be written holds afterwards: by demands' law `one-answer` two programs that keep it then do the same. That holds
+buffer lent to be written holds afterwards, but for the functions that are listed under "## Promises that allow two results": by
+demands' law `one-answer` two programs that keep it then do the same. That holds
 only of an equation whose left side is the whole of the one and whose right side speaks of what was given, and so neither of the
 answer nor of what a buffer holds afterwards: `r ≡ r` says nothing, and `r .0 ≡ x` not all.
 
@@ -18,6 +19,7 @@ import sys
 from pathlib import Path
 
 HEADING = "## Functions with a requires"
+LOOSE = "## Promises that allow two results"
 
 # what is no code: comments, byte strings and strings, byte literals
 SILENT = re.compile(r'//[^\n]*|/\*.*?\*/|"(?:\\.|[^"\\])*"|\bb\'(?:\\x[0-9A-Fa-f]{2}|\\.|[^\\\'\n])\'', re.S)
@@ -100,12 +102,12 @@ def functions(crate, source):
     return found
 
 
-def exceptions(page):
-    """What the page lists under the heading: the functions' names, and the lines that are not of the form."""
+def exceptions(page, heading):
+    """What the page lists under a heading: the functions' names, and the lines that are not of the form."""
     listed, odd, inside = [], [], False
     for number, line in enumerate(page.splitlines(), 1):
         if re.match(r'##? ', line):
-            inside = line.strip() == HEADING
+            inside = line.strip() == heading
         elif inside and line.startswith('- '):
             m = ENTRY.match(line)
             if m:
@@ -117,18 +119,21 @@ def exceptions(page):
 
 def violations(found, page):
     """A line for each violation. `found` has (file, name, line, clauses, unsaid); `page` is docs/PROMISES.md, None where it is not there."""
-    listed, odd = exceptions(page or '')
-    said = [f'docs/PROMISES.md:{number}: an exception is "- `crate::function`: reason"' for number in odd]
+    listed, odd = exceptions(page or '', HEADING)
+    loose, unclear = exceptions(page or '', LOOSE)
+    said = [f'docs/PROMISES.md:{number}: an exception is "- `crate::function`: reason"' for number in odd + unclear]
     named = set()
     for span in re.findall(r'`([^`\n]+)`', page or ''):
         named.add(re.split(r'[(\s]', span)[0])
-    requiring = set()
+    requiring, unequal = set(), set()
     for file, name, line, kinds, left in found:
         if 'requires' in kinds:
             requiring.add(name)
+        if left:
+            unequal.add(name)
         if 'ensures' not in kinds:
             said.append(f'{file}:{line}: {name} has no ensures')
-        else:
+        elif name not in loose:
             said += [f'{file}:{line}: {name} has no equation for {what}' for what in left]
         if 'requires' in kinds and name not in listed:
             said.append(f'{file}:{line}: {name} has a requires and is not listed')
@@ -140,6 +145,11 @@ def violations(found, page):
             said.append(f'docs/PROMISES.md: {name} is listed, and there is no such public function')
         elif name not in requiring:
             said.append(f'docs/PROMISES.md: {name} is listed, and has no requires')
+    for name in loose:
+        if name not in known:
+            said.append(f'docs/PROMISES.md: {name} is listed, and there is no such public function')
+        elif name not in unequal:
+            said.append(f'docs/PROMISES.md: {name} is listed, and has an equation for all')
     return said
 
 
@@ -271,6 +281,14 @@ def self_test():
             'docs/PROMISES.md: c::gone is listed, and there is no such public function',
         ]),
     ]
+    allowed = '`Held::silent`, `good`\n\n## Promises that allow two results\n\n- `c::loose`: one way.\n- `c::same`: one way.\n- `c::kept`: one way.\n' \
+        '- `c::partly`: one way.\n- `c::choosy`: none.\n- `c::gone`: none.\n'
+    cases.append((violations(found, allowed), [
+        silent,
+        choosy,
+        'docs/PROMISES.md: c::choosy is listed, and has an equation for all',
+        'docs/PROMISES.md: c::gone is listed, and there is no such public function',
+    ]))
     cases.append((unnamed([('a', 'told'), ('b', 'kept')], '`told` and kept'), ['b: docs/PROMISES.md does not name kept']))
     wrong = [(got, wanted) for got, wanted in cases if got != wanted]
     for got, wanted in wrong:

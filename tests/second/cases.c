@@ -64,6 +64,16 @@ static void paste(char *out, size_t room, const char *a, const char *b)
     out[n] = 0;
 }
 
+/* A byte put into a row's text before a place; where there is no more room the text stays. */
+static void squeeze(char text[WIDEST_ROW], size_t at, char byte)
+{
+    size_t wide = strlen(text);
+    if (wide + 1 == WIDEST_ROW)
+        return;
+    memmove(text + at + 1, text + at, wide + 1 - at);
+    text[at] = byte;
+}
+
 static void put(struct row *row, enum label label, const char *before, const char *value)
 {
     struct row made;
@@ -389,12 +399,13 @@ static size_t a_bracket(struct sheet *s)
     return at;
 }
 
+static const char *const brackets[] = {
+    ":16R:GENL", ":16S:GENL", ":16R:LINK", ":16S:LINK", ":16R:CONFDET", ":16S:CONFDET", ":16R:CONFPRTY", ":16S:CONFPRTY", ":16R:FIA",
+    ":16S:FIA", ":16R:OTHR", ":16S:OTHR", ":16R:0", ":16S:0"
+};
+
 static void wrong_nesting(struct sheet *s)
 {
-    static const char *const brackets[] = {
-        ":16R:GENL", ":16S:GENL", ":16R:LINK", ":16S:LINK", ":16R:CONFDET", ":16S:CONFDET", ":16R:CONFPRTY", ":16S:CONFPRTY", ":16R:FIA",
-        ":16S:FIA", ":16R:OTHR", ":16S:OTHR", ":16R:0", ":16S:0"
-    };
     size_t at = a_bracket(s), wide = strlen(s->rows[at].text);
     switch (below(s->chance, 7)) {
     case 0: drop(s, at); return;
@@ -679,16 +690,15 @@ static void wrong_fixed_text(struct sheet *s)
     size_t at = find(s, v->label), tag = strlen(v->tag), fixed = strlen(v->fixed);
     if (at == s->count)
         return;
-    char *text = s->rows[at].text, kept[WIDEST_ROW], other[2] = { others[below(s->chance, sizeof others - 1)], 0 };
+    char *text = s->rows[at].text, other = others[below(s->chance, sizeof others - 1)];
     size_t wide = strlen(text), from = one_in(s->chance, 4) ? tag - 1 : tag, place = from + below(s->chance, fixed + 1);
     if (place >= wide)
         return;
-    paste(kept, sizeof kept, text + place, "");
     switch (below(s->chance, 4)) {
     case 0: text[place] = 0; return;
-    case 1: text[place] = other[0]; return;
-    case 2: paste(text + place, WIDEST_ROW - place, kept + 1, ""); return;
-    default: paste(text + place, WIDEST_ROW - place, other, kept); return;
+    case 1: text[place] = other; return;
+    case 2: memmove(text + place, text + place + 1, wide - place); return;
+    default: squeeze(text, place, other); return;
     }
 }
 
@@ -762,8 +772,6 @@ static void early_settlement(struct sheet *s)
     set(s, SETT, ":98A::SETT//", date_digits(pair[1]));
 }
 
-/* ---------------------------------------------------------------- from rows to bytes */
-
 typedef void change(struct sheet *s);
 
 static change *const changes[] = {
@@ -772,6 +780,99 @@ static change *const changes[] = {
     wrong_fixed_text, wrong_fixed_text, other_function, other_kind, other_side, other_links, other_contra, other_narrative, zero_par,
     early_settlement
 };
+
+/* None, or one to three, of these changes. */
+static void near_miss(struct sheet *s)
+{
+    size_t many = one_in(s->chance, 4) ? 0 : one_in(s->chance, 5) ? 2 : one_in(s->chance, 12) ? 3 : 1;
+    for (size_t i = 0; i < many && s->count > 0; i++)
+        PICK(s->chance, changes)(s);
+}
+
+/* ---------------------------------------------------------------- damage by lines
+ * A near miss is mostly one fault. Here are several, of several passes and far from one another, so that it is tried which of
+ * them decides. */
+
+/* A byte more somewhere behind the tag, mostly one that a value may have. */
+static void longer(struct sheet *s, char text[WIDEST_ROW])
+{
+    static const char bytes[] = "AZ09AZ09AZ09,/:- a";
+    size_t wide = strlen(text), tag = wide < 5 ? wide : 5, at = one_in(s->chance, 2) ? wide : between(s->chance, tag, wide);
+    squeeze(text, at, bytes[below(s->chance, sizeof bytes - 1)]);
+}
+
+static void cut_short(struct sheet *s, char text[WIDEST_ROW]) { text[below(s->chance, strlen(text) + 1)] = 0; }
+
+/* Another line of the message, or now and then the same. */
+static void like_another(struct sheet *s, char text[WIDEST_ROW]) { paste(text, WIDEST_ROW, s->rows[any_row(s)].text, ""); }
+
+static void bracket(struct sheet *s, char text[WIDEST_ROW]) { paste(text, WIDEST_ROW, PICK(s->chance, brackets), ""); }
+
+/* A blank put in, or a stretch of it in lower case. */
+static void untidy(struct sheet *s, char text[WIDEST_ROW])
+{
+    size_t wide = strlen(text), from = below(s->chance, wide + 1), to = between(s->chance, from, wide);
+    if (one_in(s->chance, 2))
+        squeeze(text, from, ' ');
+    else
+        for (size_t i = from; i < to; i++)
+            if (text[i] >= 'A' && text[i] <= 'Z')
+                text[i] = (char)(text[i] + ('a' - 'A'));
+}
+
+static void nothing(struct sheet *s, char text[WIDEST_ROW])
+{
+    (void)s;
+    text[0] = 0;
+}
+
+static void dash(struct sheet *s, char text[WIDEST_ROW])
+{
+    (void)s;
+    paste(text, WIDEST_ROW, "-", "");
+}
+
+/* An odd line, made of the text of a row. What the late passes find stands first, what the early ones find last. */
+typedef void odd_line(struct sheet *s, char text[WIDEST_ROW]);
+
+static odd_line *const odd_lines[] = { longer, cut_short, like_another, bracket, untidy, nothing, dash };
+enum { BEFORE_BLOCKS = 3 };     /* so many stand before the lines of blocks */
+
+/* A row between the header and `-`, and no line of a block where those are spared; now and then any row. */
+static size_t a_target(struct sheet *s, bool spared)
+{
+    size_t at = any_row(s);
+    if (one_in(s->chance, 40))
+        return below(s->chance, s->count);
+    while (s->rows[at].label == END || (spared && is_bracket(&s->rows[at])))
+        at = any_row(s);
+    return at;
+}
+
+/* A row gives way to an odd line, is followed by one, or vanishes. */
+static void damage_line(struct sheet *s, size_t ways)
+{
+    size_t at = a_target(s, ways <= BEFORE_BLOCKS);
+    struct row odd = s->rows[at];
+    odd_lines[below(s->chance, ways)](s, odd.text);
+    switch (below(s->chance, 6)) {
+    case 0: drop(s, at); return;
+    case 1: insert(s, at + 1, OTHER, odd.text, ""); return;
+    default: s->rows[at] = odd; return;
+    }
+}
+
+/* Up to six lines, and often one, which leaves some messages accepted. A message takes its odd lines from the first few of the list
+ * only, and spares the lines of blocks where those few have none: else a fault of an early pass would nearly always hide those of
+ * the later ones. */
+static void damage_lines(struct sheet *s)
+{
+    size_t ways = between(s->chance, 1, COUNT(odd_lines)), many = one_in(s->chance, 3) ? 1 : between(s->chance, 1, 6);
+    for (; many > 0; many--)
+        damage_line(s, ways);
+}
+
+/* ---------------------------------------------------------------- from rows to bytes */
 
 static void put_byte(struct bytes *b, uint8_t byte)
 {
@@ -870,17 +971,20 @@ static void finish(struct chance *c, struct bytes *b)
     }
 }
 
-void make_message(struct chance *chance, struct bytes *message)
+bool make_message(struct chance *chance, struct bytes *message)
 {
     static struct sheet s;
     s.chance = chance;
     message->length = 0;
     accepted(&s);
-    size_t many = one_in(chance, 4) ? 0 : one_in(chance, 5) ? 2 : one_in(chance, 12) ? 3 : 1;
-    for (size_t i = 0; i < many && s.count > 0; i++)
-        PICK(chance, changes)(&s);
+    bool by_lines = one_in(chance, 4);
+    if (by_lines)
+        damage_lines(&s);
+    else
+        near_miss(&s);
     join(&s, message);
     finish(chance, message);
+    return by_lines;
 }
 
 /* ---------------------------------------------------------------- records */

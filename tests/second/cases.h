@@ -23,8 +23,8 @@ struct bytes {
 void chance_start(struct chance *chance, uint64_t seed, uint64_t number);
 size_t below(struct chance *chance, size_t count);      /* 0 to count - 1 */
 
-/* A message: accepted, a near miss, or damaged. */
-void make_message(struct chance *chance, struct bytes *message);
+/* A message: accepted, a near miss, or damaged. Answers whether it was damaged by lines: some of them odd ones, or gone. */
+bool make_message(struct chance *chance, struct bytes *message);
 
 /* The 375 bytes of a record: writable, at or past an edge of one of its places, or anything. */
 void make_record(struct chance *chance, uint8_t record[RECORD_BYTES]);

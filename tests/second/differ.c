@@ -36,10 +36,10 @@ static struct {
     size_t length;
 } now;
 
-/* How often each number came up, by entry. */
-static uint64_t came_up[5][NUMBERS_OF_DESK];
-enum { READ, FIELD, PLAIN, WRITE, NEXT };
-static const char *const entries[] = { "read", "field", "plain", "write", "next" };
+/* How often each number came up, by entry; and last, with reading, of the messages damaged by lines alone. */
+enum { READ, FIELD, PLAIN, WRITE, NEXT, LINES, COUNTED };
+static uint64_t came_up[COUNTED][NUMBERS_OF_DESK];
+static const char *const entries[] = { "read", "field", "plain", "write", "next", "lines" };
 
 /* What an entry answers, and all that it is lent; marked beforehand, so that what it does not answer keeps the mark. */
 struct told {
@@ -320,7 +320,8 @@ static void still(const uint8_t *lent, const uint8_t *bytes, size_t length, cons
     exit(1);
 }
 
-static void try_message(struct chance *chance, const struct bytes *message)
+/* Answers the number of the read. */
+static int try_message(struct chance *chance, const struct bytes *message)
 {
     struct record record;
     const uint8_t *lent = lend(message->at, message->length);
@@ -335,6 +336,7 @@ static void try_message(struct chance *chance, const struct bytes *message)
     ask_next(lent, message->length, 0);
     ask_next(lent, message->length, below(chance, message->length + 4));
     still(lent, message->at, message->length, "the message");
+    return answer.number;
 }
 
 static void try_record(struct chance *chance)
@@ -372,8 +374,10 @@ static void try_case(uint64_t seed, uint64_t number)
     now.seed = seed;
     now.number = number;
     chance_start(&chance, seed, number);
-    make_message(&chance, &message);
-    try_message(&chance, &message);
+    bool by_lines = make_message(&chance, &message);
+    int answer = try_message(&chance, &message);
+    if (by_lines)
+        came_up[LINES][answer]++;
     if (number % TENTH == 0)
         try_record(&chance);
     if (number % HUNDREDTH == 0)
@@ -382,18 +386,21 @@ static void try_case(uint64_t seed, uint64_t number)
 
 /* ---------------------------------------------------------------- whether it reached everything */
 
-/* Where a number must come up: reading 0 to 17, a plain form 19 too, writing 0 and 14 to 19 but 20, the batch 21. */
+/* Where a number must come up: reading 0 to 17, a plain form 19 too, writing 0 and 14 to 19 but 20, the batch 21; with the messages
+ * damaged by lines, which are made for these, 0, 5, 6, 8, 9 and 10. */
 static bool must_come_up(int entry, int number)
 {
     if (entry == WRITE)
         return number == 0 || (number >= 14 && number <= 19);
+    if (entry == LINES)
+        return number == 0 || number == 5 || number == 6 || (number >= 8 && number <= 10);
     return number <= 17 || (entry == PLAIN && number == 19) || (entry == NEXT && number == 21);
 }
 
 static bool reached(uint64_t count)
 {
     bool all = true;
-    for (int entry = READ; entry <= NEXT; entry++) {
+    for (int entry = READ; entry < COUNTED; entry++) {
         printf("%-5s", entries[entry]);
         for (int n = 0; n < NUMBERS_OF_DESK; n++) {
             uint64_t least = entry == WRITE ? count / TENTH / SELDOM : count / SELDOM;

@@ -42,10 +42,12 @@ pub fn next(batch: &[u8], position: usize) -> Answer
             position,
         };
     }
-    let end = pieces::piece_end(batch, position);
+    let front = mt515::read_front(&batch[position..]);
+    let reading = front.reading;
+    let end = position + front.length;
     Answer {
         turn: Turn::Message,
-        reading: mt515::read(&batch[position..end]),
+        reading,
         position: end,
     }
 }

@@ -9,6 +9,7 @@ pub mod Accepting
 pub mod Holds
 pub mod Round
 pub mod Passing
+pub mod Glancing
 pub mod Plainly
 pub mod Demands
 pub mod Numbers

@@ -1,6 +1,7 @@
 pub mod Format
 pub mod Reading
 pub mod Passing
+pub mod Glancing
 pub mod Lawful
 pub mod Writing
 pub mod Plain

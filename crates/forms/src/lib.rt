@@ -51,7 +51,7 @@ pub fn fixed_text(slots: &[u8], slot: usize) -> &[u8]
     }
     let at = slot * 20;
     let line = &slots[at..at + 20];
-    let len = (line[3] % 17) as usize;
+    let len = text::remainder(line[3], 17) as usize;
     &line[4..4 + len]
 }
 

@@ -100,7 +100,7 @@ fn good_reason(value: &[u8]) -> bool
 }
 
 // The value of 70E behind `//GSCC` is in its form.
-pub(crate) fn is_narrative(value: &[u8]) -> bool
+pub fn is_narrative(value: &[u8]) -> bool
     ensures { λ r. ⌜ r ≡ isNarrative (now (value .entry)) ⌝ }
 {
     if !text::begins_with(value, b"/TDSV") {

@@ -44,7 +44,7 @@ fn key(table: &[u8], row: usize) -> &[u8]
     ensures { λ r. ⌜ now r ≡ keyOf (drop (row * 16) (now (table .entry))) ⌝ }
 {
     let at = row * 16;
-    let len = (table[at + 2] % 14) as usize;
+    let len = text::remainder(table[at + 2], 14) as usize;
     let from = at + 3;
     &table[from..from + len]
 }
@@ -68,7 +68,7 @@ fn is_line(line: &[u8], key: &[u8]) -> bool
 }
 
 // A slot was seen; one that has no byte was not.
-fn is_seen(seen: &[u8], slot: usize) -> bool
+pub fn is_seen(seen: &[u8], slot: usize) -> bool
     ensures { λ r. ⌜ r ≡ isSeen (now (seen .entry)) slot ⌝ }
 {
     if slot < seen.len() {
@@ -88,7 +88,7 @@ pub fn mark(seen: &mut [u8], slot: usize)
 }
 
 // One of the marks from a row on, up to the end of the many blocks, was not seen yet.
-fn lacks_one(table: &[u8], row: usize, seen: &[u8]) -> bool
+pub fn lacks_one(table: &[u8], row: usize, seen: &[u8]) -> bool
     ensures { λ r. ⌜ r ≡ lacks (now (seen .entry)) (drop row (rowsOf (now (table .entry)))) ⌝ }
 {
     let rows = table.len() / 16;

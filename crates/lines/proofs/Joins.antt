@@ -78,7 +78,7 @@ unfolding allPrinted joined bytes bytePass
 bytes-joined n [] h = refl
 bytes-joined n (l ∷ ls) h = bytes-front n l (joined ls) (and-left _ _ h) ∙ bytes-joined (suc n) ls (and-right (printed l) _ h)
 
-ended-behind : (s t : List ℕ) → ended t ≡ true → ended (s ++ t) ≡ true
+pub ended-behind : (s t : List ℕ) → ended t ≡ true → ended (s ++ t) ≡ true
 unfolding ended
 ended-behind [] t h = h
 ended-behind (b ∷ []) [] h = absurd (true≢false (sym h))

@@ -16,7 +16,7 @@ use Rattle.text.specs.Bytes.{bytes, begins, same, before}
 use Rattle.text.specs.Classes.{isBetween}
 use Rattle.text.proofs.Laws.{and-left, and-right, begins-is, before-front, before-length, rest-of}
 use Rattle.lines.specs.Verdicts.{refused, pass, then}
-use Rattle.lines.specs.Lines.{bare, linesOf, ended, sizePass, mayStand, bytePass, endPass, linesPass, lineAt}
+use Rattle.lines.specs.Lines.{bare, linesOf, ended, sizePass, mayStand, bytePass, endPass, linesPass, lineAt, endingWidth}
 use Rattle.lines.specs.declared.Verdict.{Verdict}
 use Rattle.lines.proofs.Laws.{bare-length, print-lf, bare-print, lines-step, lines-behind}
 
@@ -152,33 +152,30 @@ text-line (suc n) (b ∷ s) h p =
 
 -- ---- an ending
 
-abbrev pub endingOf : List ℕ → ℕ
-endingOf t = cond (eqb (length t) 0) 0 (cond (begins (bytes "\n") t) 1 (cond (begins (bytes "\r\n") t) 2 3))
-
-ending-cons : (b : ℕ) (t : List ℕ) → endingOf (b ∷ t) ≡ cond (eqb b 10) 1 (cond (begins (bytes "\r\n") (b ∷ t)) 2 3)
+ending-cons : (b : ℕ) (t : List ℕ) → endingWidth (b ∷ t) ≡ cond (eqb b 10) 1 (cond (begins (bytes "\r\n") (b ∷ t)) 2 3)
 unfolding begins bytes
 ending-cons b t = rw (eqb·suc-zero (length t), and-true (eqb b 10))
 
 module _ (t : List ℕ) where
-  pub ending-none : length t ≡ 0 → 0 ≡ endingOf t
+  pub ending-none : length t ≡ 0 → 0 ≡ endingWidth t
   ending-none h = rw h
 
   module _ (some : length t ≡ 0 → ⊥) where
-    ending-is : endingOf t ≡ cond (eqb (getD t 0 0) 10) 1 (cond (begins (bytes "\r\n") t) 2 3)
+    ending-is : endingWidth t ≡ cond (eqb (getD t 0 0) 10) 1 (cond (begins (bytes "\r\n") t) 2 3)
     ending-is = at t some
       where
-        at : (t : List ℕ) → (length t ≡ 0 → ⊥) → endingOf t ≡ cond (eqb (getD t 0 0) 10) 1 (cond (begins (bytes "\r\n") t) 2 3)
+        at : (t : List ℕ) → (length t ≡ 0 → ⊥) → endingWidth t ≡ cond (eqb (getD t 0 0) 10) 1 (cond (begins (bytes "\r\n") t) 2 3)
         at [] h = absurd (h refl)
         at (b ∷ t) h = ending-cons b t
 
-    pub ending-lf : getD t 0 0 ≡ 10 → 1 ≡ endingOf t
+    pub ending-lf : getD t 0 0 ≡ 10 → 1 ≡ endingWidth t
     ending-lf e = sym (ending-is ∙ rw (eq-eqb _ _ e))
 
     module _ (lf : getD t 0 0 ≡ 10 → ⊥) where
-      pub ending-crlf : begins (bytes "\r\n") t ≡ true → 2 ≡ endingOf t
+      pub ending-crlf : begins (bytes "\r\n") t ≡ true → 2 ≡ endingWidth t
       ending-crlf e = sym (ending-is ∙ rw (ne-eqb _ _ lf, e))
 
-      pub ending-other : begins (bytes "\r\n") t ≡ false → 3 ≡ endingOf t
+      pub ending-other : begins (bytes "\r\n") t ≡ false → 3 ≡ endingWidth t
       ending-other e = sym (ending-is ∙ rw (ne-eqb _ _ lf, e))
 
 -- what stands behind a text, where it is an ending of k bytes or the end of the message
@@ -197,7 +194,7 @@ ends-crlf : (t : List ℕ) → Ends (13 ∷ 10 ∷ t) 2
 unfolding bytePass mayStand isBetween before bare begins bytes
 ends-crlf t = record { rest = λ line. refl; bare-of = refl; behind = refl; within = omega arith; some = omega arith }
 
-ends-here : (t : List ℕ) → (endingOf t ≡ 3 → ⊥) → Ends t (endingOf t)
+ends-here : (t : List ℕ) → (endingWidth t ≡ 3 → ⊥) → Ends t (endingWidth t)
 unfolding bytePass before bare begins bytes
 ends-here [] h = record { rest = λ line. refl; bare-of = refl; behind = refl; within = omega arith; some = omega arith }
 ends-here (b ∷ t) h = subst (Ends (b ∷ t)) (sym (ending-cons b t)) (at (eqb b 10) refl (eqb b 13 && begins (10 ∷ []) t) refl (λ x. h (ending-cons b t ∙ x)))
@@ -211,7 +208,7 @@ ends-here (b ∷ t) h = subst (Ends (b ∷ t)) (sym (ending-cons b t)) (at (eqb 
     at false e false f h = absurd (h refl)
 
 -- and where it is neither
-no-ending : (t : List ℕ) (line : ℕ) → endingOf t ≡ 3 → (0 < length t → isBetween 32 126 (getD t 0 0) ≡ false) → bytePass line t ≡ refused 2 line
+no-ending : (t : List ℕ) (line : ℕ) → endingWidth t ≡ 3 → (0 < length t → isBetween 32 126 (getD t 0 0) ≡ false) → bytePass line t ≡ refused 2 line
 unfolding bytePass mayStand begins bytes
 no-ending [] line h p = let z : ⊥ = omega arith in absurd z
 no-ending (b ∷ t) line h p = at (eqb b 10) refl (eqb b 13 && begins (10 ∷ []) t) refl (sym (ending-cons b t) ∙ h)
@@ -310,7 +307,7 @@ module _ (m : List ℕ) (n end at : ℕ) where
   unfolding closing bytePass then pass refused
   left-none h = rw (lines-behind m at h, drop-of-length-le m h)
 
-  module _ (h : at < length m) (s : List ℕ) (es : s ≡ drop at m) (k : ℕ) (front : Front s k) (t : List ℕ) (et : t ≡ drop k s) (c : ℕ) (is : c ≡ endingOf t) where
+  module _ (h : at < length m) (s : List ℕ) (es : s ≡ drop at m) (k : ℕ) (front : Front s k) (t : List ℕ) (et : t ≡ drop k s) (c : ℕ) (is : c ≡ endingWidth t) where
     -- what stands behind the text is no byte of a text
     other : 0 < length t → isBetween 32 126 (getD t 0 0) ≡ false
     other l =
@@ -321,7 +318,7 @@ module _ (m : List ℕ) (n end at : ℕ) where
     left-stop : c ≡ 3 → refused 2 (n + 1) ≡ left m n end at
     unfolding then refused
     left-stop e =
-        let three : endingOf t ≡ 3 = sym is ∙ e in
+        let three : endingWidth t ≡ 3 = sym is ∙ e in
         let judged : bytePass (n + 1) s ≡ refused 2 (n + 1) = text-bytes k (n + 1) s (front .1) ∙ ap (bytePass (n + 1)) (sym et) ∙ no-ending t (n + 1) three other in
         rw (← es, judged)
 

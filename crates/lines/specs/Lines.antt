@@ -42,6 +42,10 @@ ended [] = false
 ended (b ∷ []) = eqb b 10
 ended (b ∷ c ∷ s) = ended (c ∷ s)
 
+-- how many bytes of line ending a part begins with: 0 where the message ends there, 3 where another byte stands
+abbrev pub endingWidth : List ℕ → ℕ
+endingWidth s = cond (eqb (length s) 0) 0 (cond (begins (bytes "\n") s) 1 (cond (begins (bytes "\r\n") s) 2 3))
+
 -- ---- lines made into a message
 
 -- every line ends in CR LF

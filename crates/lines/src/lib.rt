@@ -6,10 +6,10 @@ ghost use mathlib.Core.Bool.{true, false, _&&_, cond};
 ghost use Prim.Native.Nat.{ℕ, _≤_, _<_};
 ghost use lib.Dec.{eqb};
 ghost use lib.ListN.{length, getD};
-ghost use Rattle.text.specs.Bytes.{bytes, begins, same};
+ghost use Rattle.text.specs.Bytes.{bytes, same};
 ghost use Rattle.text.specs.Classes.{isBetween};
 ghost use Rattle.lines.specs.Verdicts.{refused, pass, then};
-ghost use Rattle.lines.specs.Lines.{bare, bytePass, endPass, linesPass, linesOf, ended, lineAt, startBehind};
+ghost use Rattle.lines.specs.Lines.{bare, bytePass, endPass, linesPass, linesOf, ended, endingWidth, lineAt, startBehind};
 
 // What the desk gets back of a pass: a number of document 01, 0 for nothing wrong, and the line.
 pub struct Verdict {
@@ -24,7 +24,7 @@ pub struct Line {
 }
 
 // No line ending stands here.
-const NO_ENDING: usize = 3;
+pub const NO_ENDING: usize = 3;
 
 impl Verdict {
     pub const PASS: Verdict = Verdict { number: 0, line: 0 };
@@ -95,8 +95,8 @@ fn text_length(part: &[u8]) -> usize
 }
 
 // How many bytes of line ending a part begins with: 0 where the message ends there, `NO_ENDING` where another byte stands.
-fn ending(part: &[u8]) -> usize
-    ensures { λ r. ⌜ r ≡ cond (eqb (length (now (part .entry))) 0) 0 (cond (begins (bytes "\n") (now (part .entry))) 1 (cond (begins (bytes "\r\n") (now (part .entry))) 2 3)) ⌝ }
+pub fn ending(part: &[u8]) -> usize
+    ensures { λ r. ⌜ r ≡ endingWidth (now (part .entry)) ⌝ }
 {
     if part.len() == 0 {
         return 0;

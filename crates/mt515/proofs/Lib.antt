@@ -1,2 +1,3 @@
 pub mod Chain
+pub mod Glancing
 pub mod Cases

@@ -3,11 +3,14 @@
 -- type.
 use Prim.Native.Nat.{ℕ}
 use mathlib.Core.List.{List}
+use lib.ListN.{length}
 use Rattle.lines.specs.declared.Verdict.{Verdict}
+use Rattle.pieces.specs.Pieces.{pieceOf}
 use Rattle.format.specs.Reading as Any
 use Rattle.trade.specs.declared.Trade.{Trade}
 use Rattle.values.specs.Mt515.{mt515}
 use Rattle.mt515.specs.declared.Reading.{Reading}
+use Rattle.mt515.specs.declared.Front.{Front}
 
 -- a number and a line beside a record, as the code answers them
 abbrev pub told : Any.Read Trade → Reading
@@ -22,3 +25,7 @@ readOf m = told (Any.readOf mt515 m)
 -- the rules of line 0, of the values of a message
 unfoldable pub judged : (ℕ → List ℕ) → Reading
 judged value = told (Any.reading (mt515 .blank) (Any.rulesOf mt515 value) (mt515 .recordOf value))
+
+-- the piece at the front of a text, read as if alone, and how many bytes it has
+unfoldable pub frontOf : List ℕ → Front
+frontOf s = record { reading = readOf (pieceOf s); length = length (pieceOf s) }

@@ -2,17 +2,24 @@
 //
 // What is right stands in specs/Reading, over format's specs/Reading and values' specs/Mt515.
 use lines::Verdict;
+use measure::Width;
 use trade::Trade;
 ghost use mathlib.Core.Path.{_≡_};
 ghost use Rattle.trade.specs.Records.{blankTrade};
 ghost use Rattle.stretches.specs.Stretches.{stretchOf};
-ghost use Rattle.mt515.specs.Reading.{judged, readOf};
+ghost use Rattle.mt515.specs.Reading.{judged, readOf, frontOf};
 
 // What the desk gets back of a message: 0 and the record, or a number and a line with the blank record beside them.
 pub struct Reading {
     pub number: u64,
     pub line: usize,
     pub trade: Trade,
+}
+
+// What stands at the front of a text: how its piece is read, and how many bytes the piece has.
+pub struct Front {
+    pub reading: Reading,
+    pub length: usize,
 }
 
 fn refuse(verdict: Verdict) -> Reading
@@ -26,7 +33,11 @@ fn refuse(verdict: Verdict) -> Reading
 }
 
 // The record of a message with nothing wrong up to its values, judged by its kind.
-fn judge<'a, 'b>(message: &'a [u8], starts: &'b [usize], ends: &'b [usize]) -> Reading
+fn judge<'a, 'b>(
+    message: &'a [u8],
+    starts: &'b [usize; stretches::SLOTS],
+    ends: &'b [usize; stretches::SLOTS],
+) -> Reading
     ensures { λ r. ⌜ r ≡ judged (stretchOf (now (message .entry)) (now (starts .entry)) (now (ends .entry))) ⌝ }
 {
     let trade = trade::gather(message, starts, ends);
@@ -41,8 +52,8 @@ fn judge<'a, 'b>(message: &'a [u8], starts: &'b [usize], ends: &'b [usize]) -> R
     }
 }
 
-// Reads a message.
-pub fn read(message: &[u8]) -> Reading
+// Reads a message by the passes in their order.
+fn read_by_passes(message: &[u8]) -> Reading
     ensures { λ r. ⌜ r ≡ readOf (now (message .entry)) ⌝ }
 {
     let body = table::take(message);
@@ -53,4 +64,46 @@ pub fn read(message: &[u8]) -> Reading
     let starts = body.starts;
     let ends = body.ends;
     judge(message, &starts, &ends)
+}
+
+// Reads the piece at the front of a text by the passes in their order.
+fn front_by_passes(text: &[u8]) -> Front
+    ensures { λ r. ⌜ r ≡ frontOf (now (text .entry)) ⌝ }
+{
+    let end = pieces::piece_end(text, 0);
+    Front {
+        reading: read_by_passes(&text[..end]),
+        length: end,
+    }
+}
+
+// Reads a message: at one look where that takes all of it, and else by the passes.
+pub fn read(message: &[u8]) -> Reading
+    ensures { λ r. ⌜ r ≡ readOf (now (message .entry)) ⌝ }
+{
+    let mut starts = [0usize; stretches::SLOTS];
+    let mut ends = [0usize; stretches::SLOTS];
+    let width = table::glance(message, &mut starts, &mut ends);
+    if let Width::Is(n) = width {
+        if n == message.len() {
+            return judge(message, &starts, &ends);
+        }
+    }
+    read_by_passes(message)
+}
+
+// Reads the piece at the front of a text: at one look where that takes it, and else by the passes.
+pub fn read_front(text: &[u8]) -> Front
+    ensures { λ r. ⌜ r ≡ frontOf (now (text .entry)) ⌝ }
+{
+    let mut starts = [0usize; stretches::SLOTS];
+    let mut ends = [0usize; stretches::SLOTS];
+    let width = table::glance(text, &mut starts, &mut ends);
+    if let Width::Is(n) = width {
+        return Front {
+            reading: judge(&text[..n], &starts, &ends),
+            length: n,
+        };
+    }
+    front_by_passes(text)
 }

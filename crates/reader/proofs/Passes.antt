@@ -43,24 +43,25 @@ judged-then number n v = on (eqb number 0)
 abbrev pub headOf : (ℕ → Slot) → List ℕ → List ℕ → Body
 headOf slotOf header m = record { verdict = headPass slotOf header m; starts = headStarts slotOf header m; ends = headEnds header m }
 
-module _ (slotOf : ℕ → Slot) (m header : List ℕ) where
-  -- the first fault so far, with the lines still ahead, is that of the whole header; so it is with the places
+module _ (slotOf : ℕ → Slot) (m header starts₀ ends₀ : List ℕ) where
+  -- the first fault so far, with the lines still ahead, is that of the whole header; so it is with the places, from those that were kept
+  -- before
   pub record Kept (starts ends : List ℕ) (fault : Verdict) (at i : ℕ) : Type 0 where
     pub placed : at ≡ startBehind m i
     pub starts-long : length starts ≡ slotCount
     pub ends-long : length ends ≡ slotCount
     pub plain : then fault pass ≡ fault
     pub first : then fault (headVerdict slotOf (suc i) (drop i header) (drop i (linesOf m))) ≡ headPass slotOf header m
-    pub begun : startsFrom slotOf m i starts (drop i header) ≡ headStarts slotOf header m
-    pub ended : endsFrom m i ends (drop i header) ≡ headEnds header m
+    pub begun : startsFrom slotOf m i starts (drop i header) ≡ startsFrom slotOf m 0 starts₀ header
+    pub ended : endsFrom m i ends (drop i header) ≡ endsFrom m 0 ends₀ header
 
-  pub begin : Kept (replicate {A = ℕ} slotCount 0) (replicate {A = ℕ} slotCount 0) pass 0 0
-  unfolding startBehind headPass headStarts headEnds
-  begin =
+  pub begin : length starts₀ ≡ slotCount → length ends₀ ≡ slotCount → Kept starts₀ ends₀ pass 0 0
+  unfolding startBehind headPass
+  begin starts-long ends-long =
       record {
         placed = refl;
-        starts-long = refl;
-        ends-long = refl;
+        starts-long = starts-long;
+        ends-long = ends-long;
         plain = pass-then pass;
         first = pass-then _;
         begun = refl;
@@ -68,14 +69,11 @@ module _ (slotOf : ℕ → Slot) (m header : List ℕ) where
       }
 
   module _ (starts ends : List ℕ) (fault : Verdict) (at i : ℕ) (k : Kept starts ends fault at i) where
-    pub over : length header ≤ i → record { verdict = fault; starts = starts; ends = ends } ≡ headOf slotOf header m
+    pub over : length header ≤ i → (fault ≡ headPass slotOf header m) × (starts ≡ startsFrom slotOf m 0 starts₀ header) × (ends ≡ endsFrom m 0 ends₀ header)
     unfolding headVerdict startsFrom endsFrom
     over h =
         let none : drop i header ≡ [] = drop-of-length-le header h in
-        let v : fault ≡ headPass slotOf header m = sym (k .plain) ∙ (rw none at (k .first)) in
-        let s : starts ≡ headStarts slotOf header m = rw none at (k .begun) in
-        let e : ends ≡ headEnds header m = rw none at (k .ended) in
-        rw (v, s, e)
+        (sym (k .plain) ∙ (rw none at (k .first)), rw none at (k .begun), rw none at (k .ended))
 
     pub placed-in : at ≤ length m
     placed-in = rw (k .placed) (begins m i .within)

@@ -9,9 +9,11 @@ use lib.Dec.{leb}
 use lib.ListN.{length, getD}
 use borrow.Author.Tests.{leb-true}
 use Rattle.text.specs.Bytes.{bytes}
+use Rattle.text.specs.Classes.{isBetween, printed, allPrinted}
 use Rattle.text.proofs.Laws.{and-left, and-right}
 use Rattle.forms.specs.Forms.{Slot, other}
 use Rattle.forms.specs.Notation.{slot}
+use Rattle.measure.specs.Measure.{cleanForm, cleanSlot}
 use Rattle.table.specs.Table.{slots, lines, slotOf}
 
 -- a fixed text has at most sixteen bytes: one test over all slots, and the rule at each
@@ -28,3 +30,18 @@ short-at (s ∷ ss) (suc i) e = short-at ss i (and-right (leb (length (s .fixed)
 pub fixed-short : (i : ℕ) → length (slotOf i .fixed) ≤ 16
 unfolding slotOf slots bytes
 fixed-short i = short-at lines i refl
+
+-- a fixed text and the words of a form are of 20 to 7E hex: so too
+abbrev clean : List Slot → Bool
+clean [] = true
+clean (s ∷ ss) = cleanSlot s && clean ss
+
+clean-at : (ss : List Slot) (i : ℕ) → clean ss ≡ true → cleanSlot (getD ss i (slot "" other)) ≡ true
+unfolding bytes cleanSlot cleanForm printed
+clean-at [] i e = refl
+clean-at (s ∷ ss) zero e = and-left _ _ e
+clean-at (s ∷ ss) (suc i) e = clean-at ss i (and-right (cleanSlot s) _ e)
+
+pub slots-clean : (i : ℕ) → cleanSlot (slotOf i) ≡ true
+unfolding slotOf slots bytes cleanSlot cleanForm printed allPrinted isBetween
+slots-clean i = clean-at lines i refl

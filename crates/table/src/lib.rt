@@ -1,10 +1,12 @@
 // The MT515 as bytes: the rows of its table, and the fixed text and form of each slot. The proofs hold both against
 // specs/Table.
+use measure::Width;
 use walk::Body;
 ghost use mathlib.Core.Path.{_≡_};
 ghost use lib.ListN.{length};
 ghost use Rattle.sheets.specs.Trees.{tableOf};
 ghost use Rattle.reader.specs.Take.{takeOf};
+ghost use Rattle.glance.specs.Glance.{Says};
 ghost use Rattle.table.specs.Table.{header, slotOf};
 ghost use Rattle.table.specs.Tree.{tree};
 
@@ -102,6 +104,18 @@ pub fn take(message: &[u8]) -> Body
     ensures { λ r. ⌜ r ≡ takeOf (tableOf tree) slotOf header (now (message .entry)) ⌝ }
 {
     reader::take(message, &HEADER, &TABLE, &SLOTS)
+}
+
+// Takes the MT515 at the front of a text at one look: how many bytes it has, and where the value of each slot begins and ends; or nothing
+// is told.
+pub fn glance(
+    text: &[u8],
+    starts: &mut [usize; stretches::SLOTS],
+    ends: &mut [usize; stretches::SLOTS],
+) -> Width
+    ensures { λ r. ⌜ Says (tableOf tree) slotOf header (now (text .entry)) (now (starts .entry)) (now (ends .entry)) (now (starts .exit)) (now (ends .exit)) r ⌝ }
+{
+    glance::glance(text, &HEADER, &TABLE, &SLOTS, starts, ends)
 }
 
 // How long the fixed text of a slot is.

@@ -2,3 +2,4 @@ pub mod Bools
 pub mod Laws
 pub mod Printed
 pub mod Scans
+pub mod Words

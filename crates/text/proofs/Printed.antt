@@ -8,17 +8,9 @@ use native.Mathlib.Omega.{arith}
 use lib.Dec.{leb}
 use borrow.Author.Tests.{leb-true, le-leb}
 use Rattle.text.specs.Classes.{isBetween, isDigit, isUpper, isC, inClass, allIn}
+unfoldable pub use Rattle.text.specs.Classes.{printed, allPrinted}
 use Rattle.text.specs.declared.Class.the-variants.{C, Digit}
 use Rattle.text.proofs.Laws.{and-left, and-right, and-both}
-
--- every byte is from 20 to 7E hex
-unfoldable pub printed : List ℕ → Bool
-printed [] = true
-printed (b ∷ s) = isBetween 32 126 b && printed s
-
-unfoldable pub allPrinted : List (List ℕ) → Bool
-allPrinted [] = true
-allPrinted (s ∷ ss) = printed s && allPrinted ss
 
 pub printed-append : (s t : List ℕ) → printed s ≡ true → printed t ≡ true → printed (s ++ t) ≡ true
 unfolding printed

@@ -1,5 +1,5 @@
 -- Text as document 01 prints it, as the list of its bytes, and how a part of a message is held against a key.
-use Prim.Native.Nat.{ℕ, zero, suc}
+use Prim.Native.Nat.{ℕ, zero, suc, _+_, _*_}
 use Prim.Native.Char.{code}
 use Prim.Native.String
 use Prim.Native.String.{String}
@@ -35,3 +35,10 @@ before b (x ∷ s) = cond (eqb x b) [] (x ∷ before b s)
 unfoldable pub parts : ℕ → ℕ → List ℕ → List (List ℕ)
 parts width zero s = []
 parts width (suc n) s = take width s ∷ parts width n (drop width s)
+
+-- ---- a step of the code
+
+-- bytes as one number, the first of them the lowest
+unfoldable pub little : List ℕ → ℕ
+little [] = 0
+little (b ∷ s) = b + 256 * little s

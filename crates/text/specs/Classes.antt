@@ -35,3 +35,12 @@ allIn k (b ∷ s) = inClass k b && allIn k s
 -- from a least to a most number of c
 unfoldable pub isCode : ℕ → ℕ → List ℕ → Bool
 isCode least most part = leb least (length part) && (leb (length part) most && allIn C part)
+
+-- every byte is from 20 to 7E hex
+unfoldable pub printed : List ℕ → Bool
+printed [] = true
+printed (b ∷ s) = isBetween 32 126 b && printed s
+
+unfoldable pub allPrinted : List (List ℕ) → Bool
+allPrinted [] = true
+allPrinted (s ∷ ss) = printed s && allPrinted ss

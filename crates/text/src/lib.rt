@@ -3,8 +3,9 @@
 //
 // What is right stands in specs/: Bytes, Classes, Texts and Copy.
 ghost use mathlib.Core.Path.{_≡_};
-ghost use lib.ListN.{length};
-ghost use Rattle.text.specs.Bytes.{begins, same, before};
+ghost use Prim.Native.Nat.{_+_, _%_, _<_, _≤_};
+ghost use lib.ListN.{length, take, drop};
+ghost use Rattle.text.specs.Bytes.{begins, same, before, little};
 ghost use Rattle.text.specs.Classes.{isBetween, inClass, allIn, isCode};
 ghost use Rattle.text.specs.Texts.{contents, textOf, inForm};
 ghost use Rattle.text.specs.Copy.{placed, after};
@@ -46,6 +47,19 @@ pub fn in_class(class: Class, byte: u8) -> bool
     }
 }
 
+// The remainder of a byte. One below n is its own, so that nothing is divided for it; by 0 every byte is its own.
+pub fn remainder(byte: u8, n: u8) -> u8
+    ensures { λ r. ⌜ r ≡ byte % n ⌝ }
+{
+    if byte < n {
+        return byte;
+    }
+    if n == 0 {
+        return byte;
+    }
+    byte % n
+}
+
 // Every byte of a part is of a class.
 pub fn all_in(class: Class, part: &[u8]) -> bool
     ensures { λ r. ⌜ r ≡ allIn class (now (part .entry)) ⌝ }
@@ -73,13 +87,36 @@ pub fn is_code(part: &[u8], least: usize, most: usize) -> bool
     all_in(Class::C, part)
 }
 
-// A part of a message begins with a key.
-pub fn begins_with(part: &[u8], key: &[u8]) -> bool
+fn wide(byte: u8) -> u64
+    ensures { λ r. ⌜ (r ≡ byte) × (r < 256) ⌝ }
+{
+    byte as u64
+}
+
+// Four bytes of a part as one number, the first of them the lowest.
+fn half(part: &[u8], at: usize) -> u64
+    requires { ⌜ at + 4 ≤ length (now part) ⌝ }
+    ensures { λ r. ⌜ (r ≡ little (take 4 (drop at (now (part .entry))))) × (r < 4294967296) ⌝ }
+{
+    wide(part[at])
+        + 256 * wide(part[at + 1])
+        + 65536 * wide(part[at + 2])
+        + 16777216 * wide(part[at + 3])
+}
+
+// Eight bytes of a part as one number: a word, which the machine reads at once.
+fn word(part: &[u8], at: usize) -> u64
+    requires { ⌜ at + 8 ≤ length (now part) ⌝ }
+    ensures { λ r. ⌜ r ≡ little (take 8 (drop at (now (part .entry)))) ⌝ }
+{
+    half(part, at) + 4294967296 * half(part, at + 4)
+}
+
+// A part begins with a key that is not longer, byte by byte.
+fn begins_by_bytes(part: &[u8], key: &[u8]) -> bool
+    requires { ⌜ length (now key) ≤ length (now part) ⌝ }
     ensures { λ r. ⌜ r ≡ begins (now (key .entry)) (now (part .entry)) ⌝ }
 {
-    if part.len() < key.len() {
-        return false;
-    }
     let mut i = 0;
     while i < key.len() {
         if part[i] != key[i] {
@@ -88,6 +125,51 @@ pub fn begins_with(part: &[u8], key: &[u8]) -> bool
         i += 1;
     }
     true
+}
+
+// The same with a key of four to eight bytes: its first four and its last four, which may overlap.
+fn begins_by_halves(part: &[u8], key: &[u8]) -> bool
+    requires { ⌜ (length (now key) ≤ length (now part)) × (4 ≤ length (now key)) × (length (now key) ≤ 8) ⌝ }
+    ensures { λ r. ⌜ r ≡ begins (now (key .entry)) (now (part .entry)) ⌝ }
+{
+    if half(part, 0) != half(key, 0) {
+        return false;
+    }
+    let last = key.len() - 4;
+    half(part, last) == half(key, last)
+}
+
+// The same with a key of eight bytes or more: a word at a time, and then its last eight bytes, of which some may be known.
+fn begins_by_words(part: &[u8], key: &[u8]) -> bool
+    requires { ⌜ (length (now key) ≤ length (now part)) × (8 ≤ length (now key)) ⌝ }
+    ensures { λ r. ⌜ r ≡ begins (now (key .entry)) (now (part .entry)) ⌝ }
+{
+    let n = key.len();
+    let mut i = 0;
+    while 8 <= n - i {
+        if word(part, i) != word(key, i) {
+            return false;
+        }
+        i += 8;
+    }
+    let last = n - 8;
+    word(part, last) == word(key, last)
+}
+
+// A part of a message begins with a key. Each line is held against many keys, so a longer one is compared several bytes at a time.
+pub fn begins_with(part: &[u8], key: &[u8]) -> bool
+    ensures { λ r. ⌜ r ≡ begins (now (key .entry)) (now (part .entry)) ⌝ }
+{
+    if part.len() < key.len() {
+        return false;
+    }
+    if key.len() < 4 {
+        return begins_by_bytes(part, key);
+    }
+    if key.len() < 8 {
+        return begins_by_halves(part, key);
+    }
+    begins_by_words(part, key)
 }
 
 // A part of a message is a key, byte for byte.

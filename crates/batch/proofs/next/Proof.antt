@@ -1,8 +1,7 @@
 -- `batch::next` meets its contract: past the end, at the end, or a piece that is read. Assumes nothing.
 use native.Mathlib.Omega.{arith}
+use Rattle.batch.proofs.Answers.{next-message, front-within, next-done, next-past}
 use borrow.Author.Needs.{needs}
-use Rattle.pieces.proofs.Laws.{piece-within}
-use Rattle.batch.proofs.Answers.{next-message, next-done, next-past}
 use Rattle.batch.proofs.next.Statement.{statement}
 use Rattle.batch.proofs.next.Tie as tie
 
@@ -18,25 +17,32 @@ without-message-requires-2 c κs = search needs
 returns-2 : tie.Need-returns-2
 returns-2 c = next-done _ _ (c .before .if2 .taken) _ (c .without-message2 .ensures)
 
-piece-end-requires : tie.Need-piece-end-requires
-piece-end-requires c κs = search needs
+sub-read-front : tie.Need-sub-read-front
+sub-read-front c = search needs
 
-sub-read : tie.Need-sub-read
-sub-read c = search needs
+part-read-front-start : tie.Need-part-read-front-start
+part-read-front-start c = search needs
 
-part-read-start : tie.Need-part-read-start
-part-read-start c = search needs
+part-read-front-end : tie.Need-part-read-front-end
+part-read-front-end c = search needs
 
-part-read-end : tie.Need-part-read-end
-part-read-end c = piece-within _ _ _ (c .piece-end .ensures) (c .before .before .if1 .left) .1
+read-front-requires : tie.Need-read-front-requires
+read-front-requires c κs = search needs
 
-read-requires : tie.Need-read-requires
-read-requires c κs = search needs
+add-end : tie.Need-add-end
+add-end c =
+    let r = c .before .before in
+    let e = r .before .before .before in
+    let a = e .before .before .args in
+    let w = front-within (a .batch .now) (a .position) _ (r .read-front .ensures) (e .if1 .left) in
+    omega arith
 
 returns-3 : tie.Need-returns-3
 returns-3 c =
-    let e = c .before .before in
-    next-message _ _ _ (e .piece-end .ensures) (omega (arith, e .before .if2 .left, e .before .before .if1 .left)) _ (c .read .ensures)
+    let r = c .before .before in
+    let e = r .before .before in
+    let a = e .before .before .before .args in
+    next-message (a .batch .now) (a .position) _ (r .read-front .ensures) (omega (arith, e .if2 .left, e .before .if1 .left))
 
 pub next-spec : {M : Type 1} → statement M
 next-spec =
@@ -46,9 +52,9 @@ next-spec =
     returns
     without-message-requires-2
     returns-2
-    piece-end-requires
-    sub-read
-    part-read-start
-    part-read-end
-    read-requires
+    sub-read-front
+    part-read-front-start
+    part-read-front-end
+    read-front-requires
+    add-end
     returns-3)

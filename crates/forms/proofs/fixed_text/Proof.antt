@@ -27,8 +27,11 @@ part-line-start c = search needs
 part-line-end : tie.Need-part-line-end
 part-line-end c = search needs
 
-shared-slice-read-len : tie.Need-shared-slice-read-len
-shared-slice-read-len c = search needs
+shared-slice-read-remainder : tie.Need-shared-slice-read-remainder
+shared-slice-read-remainder c = search needs
+
+remainder-requires : tie.Need-remainder-requires
+remainder-requires c κs = search needs
 
 cast-len : tie.Need-cast-len
 cast-len c = search needs
@@ -47,8 +50,9 @@ part-result-end c = search needs
 
 returns-2 : tie.Need-returns-2
 returns-2 c =
-    let e = c .before .before in
-    fixed-part (e .before .before .args .slots .now) (e .before .before .args .slot) (e .before .if1 .left) _ refl
+    let r = c .before in
+    let e = r .before .before .before in
+    rw (r .remainder .ensures) (fixed-part (e .before .before .args .slots .now) (e .before .before .args .slot) (e .if1 .left) _ refl)
 
 pub fixed-text-spec : {M : Type 1} → statement M
 fixed-text-spec =
@@ -61,7 +65,8 @@ fixed-text-spec =
     sub-line
     part-line-start
     part-line-end
-    shared-slice-read-len
+    shared-slice-read-remainder
+    remainder-requires
     cast-len
     add-result
     sub-result

@@ -8,11 +8,14 @@ use Rattle.layout.proofs.key.Tie as tie
 mul-at : tie.Need-mul-at
 mul-at c = search needs
 
-add-len : tie.Need-add-len
-add-len c = search needs
+add-remainder : tie.Need-add-remainder
+add-remainder c = search needs
 
-shared-slice-read-len : tie.Need-shared-slice-read-len
-shared-slice-read-len c = search needs
+shared-slice-read-remainder : tie.Need-shared-slice-read-remainder
+shared-slice-read-remainder c = search needs
+
+remainder-requires : tie.Need-remainder-requires
+remainder-requires c κs = search needs
 
 cast-len : tie.Need-cast-len
 cast-len c = search needs
@@ -34,16 +37,17 @@ part-result-end c = search needs
 
 returns : tie.Need-returns
 returns c =
-    let a = c .before .before .args in
-    key-at (a .table .now) (a .row * 16)
+    let a = c .before .before .before .before .args in
+    rw (c .before .remainder .ensures) (key-at (a .table .now) (a .row * 16))
 
 pub key-spec : {M : Type 1} → statement M
 key-spec =
     tie.close
     (tie.spec
     mul-at
-    add-len
-    shared-slice-read-len
+    add-remainder
+    shared-slice-read-remainder
+    remainder-requires
     cast-len
     add-from
     add-result

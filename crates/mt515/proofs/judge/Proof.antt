@@ -18,10 +18,10 @@ refuse-requires : tie.Need-refuse-requires
 refuse-requires c κs = search needs
 
 returns : tie.Need-returns
-returns c = c .refuse .ensures ∙ kinds-refused _ _ _ _ (c .before .before .before .before .before .gather .ensures) (c .before .before .before .before .stretch .ensures) (c .before .before .before .kinds-pass .ensures) (c .before .if1 .taken)
+returns c = c .refuse .ensures ∙ kinds-refused _ _ _ _ (c .before .before .before .before .before .before .before .gather .ensures) (c .before .before .before .before .stretch .ensures) (c .before .before .before .kinds-pass .ensures) (c .before .if1 .taken)
 
 returns-2 : tie.Need-returns-2
-returns-2 c = kinds-accepted _ _ _ _ (c .before .before .before .before .gather .ensures) (c .before .before .before .stretch .ensures) (c .before .before .kinds-pass .ensures) (c .if1 .left)
+returns-2 c = kinds-accepted _ _ _ _ (c .before .before .before .before .before .before .gather .ensures) (c .before .before .before .stretch .ensures) (c .before .before .kinds-pass .ensures) (c .if1 .left)
 
 pub judge-spec : {M : Type 1} → statement M
 judge-spec =

@@ -1,32 +1,42 @@
--- `mt515::read` meets its contract: what is wrong up to the values decides, and else the kinds. Assumes nothing.
+-- `mt515::read` meets its contract: what a glance takes whole is judged, and all else goes by the passes. Assumes nothing.
 use mathlib.Core.Path.{_∙_}
-use Rattle.mt515.proofs.Chain.{refused, judged-is}
+use Rattle.mt515.proofs.Glancing.{glanced-whole}
 use borrow.Author.Needs.{needs}
 use Rattle.mt515.proofs.read.Statement.{statement}
 use Rattle.mt515.proofs.read.Tie as tie
 
-take-requires : tie.Need-take-requires
-take-requires c κs = search needs
+glance-requires : tie.Need-glance-requires
+glance-requires c κs = search needs
 
-refuse-requires : tie.Need-refuse-requires
-refuse-requires c κs = search needs
-
-returns : tie.Need-returns
-returns c = c .refuse .ensures ∙ refused _ _ (c .before .before .before .before .take .ensures) (c .before .if1 .taken)
-
-slice-aggregate-judge : tie.Need-slice-aggregate-judge
-slice-aggregate-judge c = search needs
-
-slice-aggregate-judge-2 : tie.Need-slice-aggregate-judge-2
-slice-aggregate-judge-2 c = search needs
+enum-known-width : tie.Need-enum-known-width
+enum-known-width c = search needs
 
 judge-requires : tie.Need-judge-requires
 judge-requires c κs = search needs
 
+returns : tie.Need-returns
+returns c =
+    let e = c .before .before .before in
+    let w = e .before .before in
+    c .judge .ensures ∙ glanced-whole _ _ _ _ _ (w .width .given .1) (w .before .before .glance .ensures) (e .if1 .taken)
+
+enum-told : tie.Need-enum-told
+enum-told c = search needs
+
+read-by-passes-requires : tie.Need-read-by-passes-requires
+read-by-passes-requires c κs = search needs
+
 returns-2 : tie.Need-returns-2
-returns-2 c =
-    let e = c .before .before .before .before .before in
-    c .judge .ensures ∙ judged-is _ _ (e .before .before .before .take .ensures) (e .if1 .left)
+returns-2 c = search needs
 
 pub read-spec : {M : Type 1} → statement M
-read-spec = tie.close (tie.spec take-requires refuse-requires returns slice-aggregate-judge slice-aggregate-judge-2 judge-requires returns-2)
+read-spec =
+    tie.close
+    (tie.spec
+    glance-requires
+    enum-known-width
+    judge-requires
+    returns
+    enum-told
+    read-by-passes-requires
+    returns-2)

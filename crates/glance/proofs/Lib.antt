@@ -1,0 +1,4 @@
+pub mod Lines
+pub mod Sights
+pub mod Taking
+pub mod Turns

@@ -1,0 +1,233 @@
+// A glance at a text: the message at its front is taken at one look, from front to back, without a look for the end of any line; or
+// nothing is told of it.
+//
+// Nothing here knows a message type. What is right stands in specs/Glance, and what the steps tell each other in specs/Steps.
+use fitting::Fit;
+use layout::Place;
+use layout::Step;
+use measure::Width;
+ghost use mathlib.Core.Path.{_≡_};
+ghost use mathlib.Core.Bool.{cond};
+ghost use Prim.Native.Nat.{_+_, _≤_, _<_, _^_};
+ghost use lib.Dec.{eqb};
+ghost use lib.ListN.{length, set};
+ghost use Rattle.layout.specs.Rows.{rowsOf};
+ghost use Rattle.forms.specs.Slots.{slotAt};
+ghost use Rattle.glance.specs.Glance.{Says};
+ghost use Rattle.glance.specs.Steps.{Ends, HeadSeen, Told, FieldSeen, Sees, HeadSays, Closes, BodySays};
+
+// The most bytes of a message, and the line that is its last.
+const LONGEST: usize = 4096;
+
+const LAST: [u8; 1] = *b"-";
+
+// A line of the header: where its text ends, and where the next line begins. Or nothing is told.
+enum Head {
+    At(usize, usize),
+    Not,
+}
+
+// A line that is taken: what it does, where its value begins and its text ends, and where the next line begins, all from its own front.
+struct Taken {
+    step: Step,
+    value: usize,
+    end: usize,
+    next: usize,
+}
+
+enum Sight {
+    Told(Taken),
+    Not,
+}
+
+// Where the next line begins, behind a line whose text ends at a place; not told where no line ending stands there.
+fn behind(text: &[u8], end: usize) -> Width
+    ensures { λ r. ⌜ Ends (now (text .entry)) end r ⌝ }
+{
+    if text.len() < end {
+        return Width::Not;
+    }
+    let over = lines::ending(&text[end..]);
+    if over == 0 {
+        return Width::Not;
+    }
+    if over == lines::NO_ENDING {
+        return Width::Not;
+    }
+    Width::Is(end + over)
+}
+
+// A line of the header at the front of a text.
+fn head_line(text: &[u8], slots: &[u8], slot: u8) -> Head
+    ensures { λ r. ⌜ HeadSeen (slotAt (now (slots .entry)) slot) (now (text .entry)) r ⌝ }
+{
+    let Width::Is(end) = measure::value(slots, slot as usize, text) else {
+        return Head::Not;
+    };
+    let Width::Is(next) = behind(text, end) else {
+        return Head::Not;
+    };
+    Head::At(end, next)
+}
+
+// A line whose text ends at a place, and whose value begins at another.
+fn told(text: &[u8], step: Step, value: usize, end: usize) -> Sight
+    ensures { λ r. ⌜ Told (now (text .entry)) step value end r ⌝ }
+{
+    let Width::Is(next) = behind(text, end) else {
+        return Sight::Not;
+    };
+    Sight::Told(Taken {
+        step,
+        value,
+        end,
+        next,
+    })
+}
+
+// A field's line, behind the text of its row: the form of its slot says where the value ends.
+fn told_field(text: &[u8], slots: &[u8], step: Step, width: usize) -> Sight
+    ensures { λ r. ⌜ FieldSeen (slotAt (now (slots .entry)) (step .slot)) (now (text .entry)) step width r ⌝ }
+{
+    if text.len() < width {
+        return Sight::Not;
+    }
+    let Width::Is(n) = measure::value(slots, step.slot, &text[width..]) else {
+        return Sight::Not;
+    };
+    told(text, step, width, width + n)
+}
+
+// The line at the front of a text against the rows from a place on.
+fn see(text: &[u8], rows: &[u8], slots: &[u8], here: Place, seen: &[u8]) -> Sight
+    ensures { λ r. ⌜ Sees (rowsOf (now (rows .entry))) (slotAt (now (slots .entry))) here (now (seen .entry)) (now (text .entry)) r ⌝ }
+{
+    match fitting::row_for(rows, here, seen, text) {
+        Fit::Edge(step, width) => told(text, step, 0, width),
+        Fit::Field(step, width) => told_field(text, slots, step, width),
+        Fit::Not => Sight::Not,
+    }
+}
+
+// Keeps where the value of a slot begins, behind its fixed text, and where it ends.
+fn keep(
+    slots: &[u8],
+    starts: &mut [usize],
+    ends: &mut [usize],
+    slot: usize,
+    value: usize,
+    end: usize,
+)
+    requires { ⌜ value + 16 < 2 ^ 64 ⌝ }
+    ensures { λ _. ⌜ (now (starts .exit) ≡ set (now (starts .entry)) slot (value + length (slotAt (now (slots .entry)) slot .fixed))) × (now (ends .exit) ≡ set (now (ends .entry)) slot end) ⌝ }
+{
+    stretches::keep(starts, slot, value + forms::fixed_text(slots, slot).len());
+    stretches::keep(ends, slot, end);
+}
+
+// The same of a line behind the header; slot 0, of lines without a value, has none.
+fn keep_value(
+    slots: &[u8],
+    starts: &mut [usize],
+    ends: &mut [usize],
+    slot: usize,
+    value: usize,
+    end: usize,
+)
+    requires { ⌜ value + 16 < 2 ^ 64 ⌝ }
+    ensures { λ _. ⌜ (now (starts .exit) ≡ cond (eqb slot 0) (now (starts .entry)) (set (now (starts .entry)) slot (value + length (slotAt (now (slots .entry)) slot .fixed)))) × (now (ends .exit) ≡ cond (eqb slot 0) (now (ends .entry)) (set (now (ends .entry)) slot end)) ⌝ }
+{
+    if slot == 0 {
+        return;
+    }
+    keep(slots, starts, ends, slot, value, end);
+}
+
+// The lines of the header, one after the other.
+fn take_header(
+    text: &[u8],
+    header: &[u8],
+    slots: &[u8],
+    starts: &mut [usize],
+    ends: &mut [usize],
+) -> Width
+    ensures { λ r. ⌜ HeadSays (slotAt (now (slots .entry))) (now (header .entry)) (now (text .entry)) (now (starts .entry)) (now (ends .entry)) (now (starts .exit)) (now (ends .exit)) r ⌝ }
+{
+    let mut at = 0;
+    let mut i = 0;
+    while i < header.len() {
+        let slot = header[i];
+        let Head::At(end, next) = head_line(&text[at..], slots, slot) else {
+            return Width::Not;
+        };
+        keep(slots, starts, ends, slot as usize, at, at + end);
+        at += next;
+        i += 1;
+    }
+    Width::Is(at)
+}
+
+// The last line, from one place to another, is `-`, and what ends at a place is not too long.
+fn closed(text: &[u8], last: usize, stop: usize, at: usize) -> Width
+    requires { ⌜ (last ≤ stop) × (stop ≤ length (now text)) ⌝ }
+    ensures { λ r. ⌜ Closes (now (text .entry)) last stop at r ⌝ }
+{
+    if LONGEST < at {
+        return Width::Not;
+    }
+    if !text::equals(&text[last..stop], &LAST) {
+        return Width::Not;
+    }
+    Width::Is(at)
+}
+
+// The lines behind the header, up to the table's end.
+fn take_body(
+    text: &[u8],
+    from: usize,
+    rows: &[u8],
+    slots: &[u8],
+    starts: &mut [usize],
+    ends: &mut [usize],
+) -> Width
+    requires { ⌜ from ≤ length (now text) ⌝ }
+    ensures { λ r. ⌜ BodySays (rowsOf (now (rows .entry))) (slotAt (now (slots .entry))) (now (text .entry)) from (now (starts .entry)) (now (ends .entry)) (now (starts .exit)) (now (ends .exit)) r ⌝ }
+{
+    let count = rows.len() / 16;
+    let mut seen = [0u8; stretches::SLOTS];
+    let mut here = Place { row: 0, back: 0 };
+    let mut last = from;
+    let mut stop = from;
+    let mut at = from;
+    while here.row < count {
+        let Sight::Told(taken) = see(&text[at..], rows, slots, here, &seen) else {
+            return Width::Not;
+        };
+        let slot = taken.step.slot;
+        last = at;
+        stop = at + taken.end;
+        keep_value(slots, starts, ends, slot, at + taken.value, stop);
+        layout::mark(&mut seen, slot);
+        here = taken.step.place;
+        at += taken.next;
+    }
+    closed(text, last, stop, at)
+}
+
+// How many bytes at the front of a text are a message with nothing wrong up to its values. `starts` and `ends` then hold where the value
+// of each slot begins and ends.
+pub fn glance(
+    text: &[u8],
+    header: &[u8],
+    rows: &[u8],
+    slots: &[u8],
+    starts: &mut [usize; stretches::SLOTS],
+    ends: &mut [usize; stretches::SLOTS],
+) -> Width
+    ensures { λ r. ⌜ Says (rowsOf (now (rows .entry))) (slotAt (now (slots .entry))) (now (header .entry)) (now (text .entry)) (now (starts .entry)) (now (ends .entry)) (now (starts .exit)) (now (ends .exit)) r ⌝ }
+{
+    let Width::Is(from) = take_header(text, header, slots, starts, ends) else {
+        return Width::Not;
+    };
+    take_body(text, from, rows, slots, starts, ends)
+}

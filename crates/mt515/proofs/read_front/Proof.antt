@@ -1,0 +1,48 @@
+-- `mt515::read_front` meets its contract: what a glance takes is judged, and all else goes by the passes. Assumes nothing.
+use mathlib.Core.Path.{sym}
+use lib.Seq.{length-take-le}
+use Rattle.mt515.proofs.Glancing.{glanced-within, glanced-front}
+use borrow.Author.Needs.{needs}
+use Rattle.mt515.proofs.read_front.Statement.{statement}
+use Rattle.mt515.proofs.read_front.Tie as tie
+
+glance-requires : tie.Need-glance-requires
+glance-requires c κs = search needs
+
+enum-known-width : tie.Need-enum-known-width
+enum-known-width c = search needs
+
+slice-aggregate-judge : tie.Need-slice-aggregate-judge
+slice-aggregate-judge c =
+    let w = c .before .before in
+    sym (length-take-le _ _ (glanced-within _ _ _ _ _ (w .width .given .1) (w .before .before .glance .ensures)))
+
+judge-requires : tie.Need-judge-requires
+judge-requires c κs = search needs
+
+returns : tie.Need-returns
+returns c =
+    let w = c .before .before .before .before .before in
+    glanced-front _ _ _ _ _ (w .width .given .1) (w .before .before .glance .ensures) _ (c .judge .ensures)
+
+enum-told : tie.Need-enum-told
+enum-told c = search needs
+
+front-by-passes-requires : tie.Need-front-by-passes-requires
+front-by-passes-requires c κs = search needs
+
+returns-2 : tie.Need-returns-2
+returns-2 c = search needs
+
+pub read-front-spec : {M : Type 1} → statement M
+read-front-spec =
+    tie.close
+    (tie.spec
+    glance-requires
+    enum-known-width
+    slice-aggregate-judge
+    judge-requires
+    returns
+    enum-told
+    front-by-passes-requires
+    returns-2)
