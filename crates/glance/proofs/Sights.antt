@@ -22,20 +22,18 @@ use Rattle.measure.specs.declared.Width.the-variants.{Is}
 use Rattle.fitting.specs.Fitting.{cleanRows, Fits, Fitted}
 use Rattle.fitting.specs.declared.Fit.the-variants.{Edge, Field}
 use Rattle.glance.specs.Steps.{Ended, Tells, Sees, Told, FieldSeen}
-use Rattle.glance.specs.declared.Sight.{Sight}
-use Rattle.glance.specs.declared.Sight.the-variants as Sights
 use Rattle.glance.specs.declared.Taken.{Taken}
 use Rattle.glance.proofs.Lines.{told-first}
 
 -- a value behind the text of its row, as so many bytes behind it
-pub field-seen : (slot : Slot) (s : List ℕ) (step : Step) (width n : ℕ) (r : Sight) → width ≤ length s → Measured slot (drop width s) (Is n) → Told s step width (width + n) r
-    → FieldSeen slot s step width r
+pub field-seen : (slot : Slot) (s : List ℕ) (step : Step) (width n : ℕ) (t : Taken) → width ≤ length s → Measured slot (drop width s) (Is n) → Told s step width (width + n) t
+    → FieldSeen slot s step width t
 unfolding Measured Told FieldSeen
-field-seen slot s step width n Sights.Not h m t = tt
-field-seen slot s step width n (Sights.Told t) h m (a, b, c, e) =
+field-seen slot s step width n t h m k is =
+    let (a, b, c, e) = k is in
     let w : width + n - width ≡ n = omega arith in
     let v : drop width (take (t .end) s) ≡ take n (drop width s) = ap (λ (x : ℕ). drop width (take x s)) c ∙ drop-front width (width + n) s ∙ ap (λ (x : ℕ). take x (drop width s)) w in
-    (a, b, rw c (omega arith), rw c e, ap (valueNumber slot) v ∙ m .1, λ k. ap printed v ∙ m .2 k)
+    (a, b, rw c (omega arith), rw c e, ap (valueNumber slot) v ∙ m .1, λ x. ap printed v ∙ m .2 x)
 
 module _ (table : List Row) (slotOf : ℕ → Slot) (here : Place) (seen s : List ℕ) where
   -- the text of the line is taken as its row says
@@ -45,13 +43,12 @@ module _ (table : List Row) (slotOf : ℕ → Slot) (here : Place) (seen s : Lis
       f .takes (t .1) ∙ ap (stepOf table here seen) (t .0)
 
   -- the first or the last line of a block
-  pub edge-sees : (step : Step) (width : ℕ) (r : Sight) → Fitted table here seen s (Edge step width) → Told s step 0 width r → Sees table slotOf here seen s r
+  pub edge-sees : (step : Step) (width : ℕ) (t : Taken) → Fitted table here seen s (Edge step width) → Told s step 0 width t → Sees table slotOf here seen s t
   unfolding Fitted Told Sees
-  edge-sees step width Sights.Not f t = tt
-  edge-sees step width (Sights.Told t) f (a, b, c, e) = (rw b (omega arith), rw c e, tells)
+  edge-sees step width t f k is = let (a, b, c, e) = k is in (rw b (omega arith), rw c e, tells a c e)
     where
-      tells : cleanRows table ≡ true → ((i : ℕ) → cleanSlot (slotOf i) ≡ true) → Tells table slotOf here seen s t
-      tells k slots =
+      tells : t .step ≡ step → t .end ≡ width → Ended s width (t .next) → cleanRows table ≡ true → ((i : ℕ) → cleanSlot (slotOf i) ≡ true) → Tells table slotOf here seen s t
+      tells a c e k slots =
           let (fits, none, ends) = f k in
           let p : printed (take (t .end) s) ≡ true = rw c (fits .text) in
           record {
@@ -62,18 +59,19 @@ module _ (table : List Row) (slotOf : ℕ → Slot) (here : Place) (seen s : Lis
           }
 
   -- a field's line
-  pub field-sees : (step : Step) (width : ℕ) (r : Sight) → Fitted table here seen s (Field step width) → FieldSeen (slotOf (step .slot)) s step width r → Sees table slotOf here seen s r
+  pub field-sees : (step : Step) (width : ℕ) (t : Taken) → Fitted table here seen s (Field step width) → FieldSeen (slotOf (step .slot)) s step width t → Sees table slotOf here seen s t
   unfolding Fitted FieldSeen Sees
-  field-sees step width Sights.Not f t = tt
-  field-sees step width (Sights.Told t) f (a, b, c, e, v, q) = (rw b c, e, tells)
+  field-sees step width t f k is = let (a, b, c, e, v, q) = k is in (rw b c, e, tells a b c e v q)
     where
-      split : take (t .end) s ≡ take width s ++ drop width (take (t .end) s)
-      split = sym (take-append-drop width (take (t .end) s)) ∙ ap (λ (x : List ℕ). x ++ drop width (take (t .end) s)) (take-take width (t .end) s c)
+      split : width ≤ t .end → take (t .end) s ≡ take width s ++ drop width (take (t .end) s)
+      split c = sym (take-append-drop width (take (t .end) s)) ∙ ap (λ (x : List ℕ). x ++ drop width (take (t .end) s)) (take-take width (t .end) s c)
 
-      tells : cleanRows table ≡ true → ((i : ℕ) → cleanSlot (slotOf i) ≡ true) → Tells table slotOf here seen s t
-      tells k slots =
+      tells : t .step ≡ step → t .value ≡ width → width ≤ t .end → Ended s (t .end) (t .next) → valueNumber (slotOf (step .slot)) (drop width (take (t .end) s)) ≡ 0
+          → (cleanSlot (slotOf (step .slot)) ≡ true → printed (drop width (take (t .end) s)) ≡ true)
+          → cleanRows table ≡ true → ((i : ℕ) → cleanSlot (slotOf i) ≡ true) → Tells table slotOf here seen s t
+      tells a b c e v q k slots =
           let (fits, wide) = f k in
-          let p : printed (take (t .end) s) ≡ true = ap printed split ∙ printed-append (take width s) (drop width (take (t .end) s)) (fits .text) (q (slots (step .slot))) in
+          let p : printed (take (t .end) s) ≡ true = ap printed (split c) ∙ printed-append (take width s) (drop width (take (t .end) s)) (fits .text) (q (slots (step .slot))) in
           record {
             text = p;
             good = rw a (fits .good);

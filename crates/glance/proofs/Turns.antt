@@ -25,7 +25,6 @@ use Rattle.fitting.specs.Fitting.{cleanRows}
 use Rattle.glance.specs.Glance.{Clean, Glanced, Says}
 use Rattle.glance.specs.Steps.{Ended, HeadSeen, Sees, HeadTold, HeadSays, Closes, BodyTold, BodySays}
 use Rattle.glance.specs.declared.Head.the-variants as Heads
-use Rattle.glance.specs.declared.Sight.the-variants as Sights
 use Rattle.glance.specs.declared.Taken.{Taken}
 use Rattle.glance.proofs.Taking as Taking
 use Rattle.glance.proofs.Taking.{Last, heads-begin, heads-again, heads-over, lines-begin, lines-again, last-is, body-told}
@@ -112,12 +111,13 @@ module _ (table : List Row) (slotOf : ℕ → Slot) (s : List ℕ) (from : ℕ) 
         on true = refl
         on false = length-set places slot x
 
-    pub body-again : (t : Taken) → Sees table slotOf here seen (drop at s) (Sights.Told t)
+    pub body-again : (t : Taken) → t .told ≡ true → Sees table slotOf here seen (drop at s) t
         → (starts' ends' seen' : List ℕ) → starts' ≡ cond (eqb (t .step .slot) 0) starts (set starts (t .step .slot) (at + t .value + length (slotOf (t .step .slot) .fixed)))
         → ends' ≡ cond (eqb (t .step .slot) 0) ends (set ends (t .step .slot) (at + t .end)) → seen' ≡ set seen (t .step .slot) 1
         → Body starts' ends' seen' (t .step .place) at (at + t .end) (at + t .next)
     unfolding Sees
-    body-again t (v, e, g) starts' ends' seen' a b d =
+    body-again t is sees starts' ends' seen' a b d =
+        let (v, e, g) = sees is in
         let w = within s at (t .end) (t .next) (k .place) e in
         let f = k .behind in
         record {

@@ -23,8 +23,6 @@ use Rattle.fitting.specs.Fitting.{cleanRows, endsLine}
 use Rattle.glance.specs.declared.Head.{Head}
 use Rattle.glance.specs.declared.Head.the-variants as Heads
 use Rattle.glance.specs.declared.Taken.{Taken}
-use Rattle.glance.specs.declared.Sight.{Sight}
-use Rattle.glance.specs.declared.Sight.the-variants as Sights
 
 -- ---- one line
 
@@ -52,24 +50,23 @@ pub record Tells (table : List Row) (slotOf : ℕ → Slot) (here : Place) (seen
   pub valued : (t .step .slot ≡ 0 → ⊥)
       → (t .value ≡ t .step .width) × (valueNumber (slotOf (t .step .slot)) (drop (t .step .width) (take (t .end) s)) ≡ 0)
 
-unfoldable pub Sees : List Row → (ℕ → Slot) → Place → List ℕ → List ℕ → Sight → Type 0
-Sees table slotOf here seen s (Sights.Told t) =
-    (t .value ≤ t .end) × Ended s (t .end) (t .next)
+unfoldable pub Sees : List Row → (ℕ → Slot) → Place → List ℕ → List ℕ → Taken → Type 0
+Sees table slotOf here seen s t =
+    t .told ≡ true
+    → (t .value ≤ t .end) × Ended s (t .end) (t .next)
     × (cleanRows table ≡ true → ((i : ℕ) → cleanSlot (slotOf i) ≡ true) → Tells table slotOf here seen s t)
-Sees table slotOf here seen s Sights.Not = Unit
 
 -- such a line, from what is known of its text
-unfoldable pub Told : List ℕ → Step → ℕ → ℕ → Sight → Type 0
-Told s step value end (Sights.Told t) = (t .step ≡ step) × (t .value ≡ value) × (t .end ≡ end) × Ended s end (t .next)
-Told s step value end Sights.Not = Unit
+unfoldable pub Told : List ℕ → Step → ℕ → ℕ → Taken → Type 0
+Told s step value end t = t .told ≡ true → (t .step ≡ step) × (t .value ≡ value) × (t .end ≡ end) × Ended s end (t .next)
 
 -- and one whose value gets 0, behind the text of its row
-unfoldable pub FieldSeen : Slot → List ℕ → Step → ℕ → Sight → Type 0
-FieldSeen slot s step width (Sights.Told t) =
-    (t .step ≡ step) × (t .value ≡ width) × (width ≤ t .end) × Ended s (t .end) (t .next)
+unfoldable pub FieldSeen : Slot → List ℕ → Step → ℕ → Taken → Type 0
+FieldSeen slot s step width t =
+    t .told ≡ true
+    → (t .step ≡ step) × (t .value ≡ width) × (width ≤ t .end) × Ended s (t .end) (t .next)
     × (valueNumber slot (drop width (take (t .end) s)) ≡ 0)
     × (cleanSlot slot ≡ true → printed (drop width (take (t .end) s)) ≡ true)
-FieldSeen slot s step width Sights.Not = Unit
 
 -- ---- the header, and the lines behind it
 

@@ -7,7 +7,7 @@ use layout::Place;
 use layout::Step;
 use measure::Width;
 ghost use mathlib.Core.Path.{_≡_};
-ghost use mathlib.Core.Bool.{cond};
+ghost use mathlib.Core.Bool.{false, cond};
 ghost use Prim.Native.Nat.{_+_, _≤_, _<_, _^_};
 ghost use lib.Dec.{eqb};
 ghost use lib.ListN.{length, set};
@@ -27,17 +27,32 @@ enum Head {
     Not,
 }
 
-// A line that is taken: what it does, where its value begins and its text ends, and where the next line begins, all from its own front.
+// A line that was looked for, told or not: what it does, where its value begins and its text ends, and where the next line begins, all
+// from its own front. (The flag is one of the struct's, and not an enum around it, since the compiler then keeps all of it in registers.)
 struct Taken {
+    told: bool,
     step: Step,
     value: usize,
     end: usize,
     next: usize,
 }
 
-enum Sight {
-    Told(Taken),
-    Not,
+// No line was told.
+fn nothing() -> Taken
+    ensures { λ r. ⌜ r .told ≡ false ⌝ }
+{
+    Taken {
+        told: false,
+        step: Step {
+            number: 0,
+            slot: 0,
+            width: 0,
+            place: Place { row: 0, back: 0 },
+        },
+        value: 0,
+        end: 0,
+        next: 0,
+    }
 }
 
 // Where the next line begins, behind a line whose text ends at a place; not told where no line ending stands there.
@@ -61,7 +76,7 @@ fn behind(text: &[u8], end: usize) -> Width
 fn head_line(text: &[u8], slots: &[u8], slot: u8) -> Head
     ensures { λ r. ⌜ HeadSeen (slotAt (now (slots .entry)) slot) (now (text .entry)) r ⌝ }
 {
-    let Width::Is(end) = measure::value(slots, slot as usize, text) else {
+    let Width::Is(end) = measure::plain(slots, slot, text) else {
         return Head::Not;
     };
     let Width::Is(next) = behind(text, end) else {
@@ -71,41 +86,42 @@ fn head_line(text: &[u8], slots: &[u8], slot: u8) -> Head
 }
 
 // A line whose text ends at a place, and whose value begins at another.
-fn told(text: &[u8], step: Step, value: usize, end: usize) -> Sight
+fn told(text: &[u8], step: Step, value: usize, end: usize) -> Taken
     ensures { λ r. ⌜ Told (now (text .entry)) step value end r ⌝ }
 {
     let Width::Is(next) = behind(text, end) else {
-        return Sight::Not;
+        return nothing();
     };
-    Sight::Told(Taken {
+    Taken {
+        told: true,
         step,
         value,
         end,
         next,
-    })
+    }
 }
 
 // A field's line, behind the text of its row: the form of its slot says where the value ends.
-fn told_field(text: &[u8], slots: &[u8], step: Step, width: usize) -> Sight
+fn told_field(text: &[u8], slots: &[u8], step: Step, width: usize) -> Taken
     ensures { λ r. ⌜ FieldSeen (slotAt (now (slots .entry)) (step .slot)) (now (text .entry)) step width r ⌝ }
 {
     if text.len() < width {
-        return Sight::Not;
+        return nothing();
     }
     let Width::Is(n) = measure::value(slots, step.slot, &text[width..]) else {
-        return Sight::Not;
+        return nothing();
     };
     told(text, step, width, width + n)
 }
 
 // The line at the front of a text against the rows from a place on.
-fn see(text: &[u8], rows: &[u8], slots: &[u8], here: Place, seen: &[u8]) -> Sight
+fn see(text: &[u8], rows: &[u8], slots: &[u8], here: Place, seen: &[u8]) -> Taken
     ensures { λ r. ⌜ Sees (rowsOf (now (rows .entry))) (slotAt (now (slots .entry))) here (now (seen .entry)) (now (text .entry)) r ⌝ }
 {
     match fitting::row_for(rows, here, seen, text) {
         Fit::Edge(step, width) => told(text, step, 0, width),
         Fit::Field(step, width) => told_field(text, slots, step, width),
-        Fit::Not => Sight::Not,
+        Fit::Not => nothing(),
     }
 }
 
@@ -200,9 +216,10 @@ fn take_body(
     let mut stop = from;
     let mut at = from;
     while here.row < count {
-        let Sight::Told(taken) = see(&text[at..], rows, slots, here, &seen) else {
+        let taken = see(&text[at..], rows, slots, here, &seen);
+        if !taken.told {
             return Width::Not;
-        };
+        }
         let slot = taken.step.slot;
         last = at;
         stop = at + taken.end;

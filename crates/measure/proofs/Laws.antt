@@ -24,7 +24,7 @@ use Rattle.forms.specs.Narrative.{isNarrative}
 use Rattle.forms.specs.Slots.{wordsIn, formOf, slotAt}
 use Rattle.forms.proofs.Parts.{line-from, fixed-part, form-is}
 use Rattle.forms.proofs.Printing.{printedForm, form-printed}
-use Rattle.measure.specs.Measure.{cleanForm, cleanSlot, FormMeasured, Measured, slotIn}
+use Rattle.measure.specs.Measure.{cleanForm, cleanSlot, FormMeasured, Measured, slotIn, FixedMeasured}
 use Rattle.measure.specs.declared.Width.the-variants.{Is}
 
 -- one byte more at the front
@@ -115,26 +115,35 @@ value-told slot s len n l b m =
       λ c. rw t (printed-append f u (and-left _ _ c) (m .2 (and-right (printed f) _ c))),
     )
 
--- the same by a line's bytes, where the length of its text is in range; the code's part ends at its start and so many more
-module _ (t s v : List ℕ) (l : length s ≡ 20) (h : getD s 3 0 ≤ 16) (b : begins (take (4 + getD s 3 0 - 4) (drop 4 s)) v ≡ true) where
-  fixed-is : take (4 + getD s 3 0 - 4) (drop 4 s) ≡ slotIn t s .fixed
-  unfolding slotIn
-  fixed-is = let e : 4 + getD s 3 0 - 4 ≡ getD s 3 0 % 17 = omega arith in rw e
+-- the same by a line's bytes, where its fixed text was told
+module _ (t s v : List ℕ) (len : ℕ) (l : length s ≡ 20) (f : FixedMeasured s v (Is len)) where
+  told-len : (len ≡ getD s 3 0) × (len ≤ 16) × (begins (take len (drop 4 s)) v ≡ true)
+  unfolding FixedMeasured
+  told-len = f
 
-  fixed-long : length (slotIn t s .fixed) ≡ getD s 3 0
+  fixed-is : take len (drop 4 s) ≡ slotIn t s .fixed
   unfolding slotIn
-  fixed-long = let d = length-drop 4 s in length-take-le (getD s 3 0 % 17) (drop 4 s) (omega arith) ∙ omega arith
+  fixed-is =
+      let (i, h, b) = told-len in
+      let e : len ≡ getD s 3 0 % 17 = omega arith in
+      ap (λ (n : ℕ). take n (drop 4 s)) e
+
+  fixed-long : length (slotIn t s .fixed) ≡ len
+  fixed-long =
+      let (i, h, b) = told-len in
+      let d = length-drop 4 s in
+      sym (ap length fixed-is) ∙ length-take-le len (drop 4 s) (omega arith)
 
   fixed-begins : begins (slotIn t s .fixed) v ≡ true
-  fixed-begins = sym (ap (λ (f : List ℕ). begins f v) fixed-is) ∙ b
+  fixed-begins = sym (ap (λ (x : List ℕ). begins x v) fixed-is) ∙ told-len .2
 
-  pub line-within : getD s 3 0 ≤ length v
+  pub line-within : len ≤ length v
   line-within = let e = fixed-long in let w = begins-length (slotIn t s .fixed) v fixed-begins in omega arith
 
-  pub line-told : (n : ℕ) (r : List ℕ) → r ≡ drop (getD s 3 0) v
-      → FormMeasured (formOf t (getD s 0 0) (getD s 1 0) (getD s 2 0)) r (Is n) → Measured (slotIn t s) v (Is (getD s 3 0 + n))
+  pub line-told : (n : ℕ) (r : List ℕ) → r ≡ drop len v
+      → FormMeasured (formOf t (getD s 0 0) (getD s 1 0) (getD s 2 0)) r (Is n) → Measured (slotIn t s) v (Is (len + n))
   unfolding slotIn
-  line-told n r e m = value-told (slotIn t s) v (getD s 3 0) n fixed-long fixed-begins (rw e at m)
+  line-told n r e m = value-told (slotIn t s) v len n fixed-long fixed-begins (rw e at m)
 
 pub told-within : (slot : Slot) (s : List ℕ) (n : ℕ) → Measured slot s (Is n) → n ≤ length s
 unfolding Measured
@@ -149,3 +158,9 @@ slot-is t slot h s e =
     let f : take (getD s 3 0 % 17) (drop 4 s) ≡ slotAt t slot .fixed = rw n at (fixed-part t slot q s e) in
     let g = form-is t slot q s e in
     rw (f, g)
+
+pub line-long : (t : List ℕ) (slot : ℕ) → slot * 20 + 20 ≤ length t → length (take (slot * 20 + 20 - slot * 20) (drop (slot * 20) t)) ≡ 20
+line-long t slot h =
+    let w : slot * 20 + 20 - slot * 20 ≡ 20 = omega arith in
+    let d = length-drop (slot * 20) t in
+    rw w (length-take-le 20 (drop (slot * 20) t) (omega arith))

@@ -5,6 +5,7 @@ use mathlib.Core.Path.{_≡_}
 use mathlib.Core.Bool.{Bool, true, _&&_}
 use mathlib.Core.List.{List}
 use lib.ListN.{length, take, drop, getD}
+use Rattle.text.specs.Bytes.{begins}
 use Rattle.text.specs.Classes.{printed, allPrinted}
 use Rattle.forms.specs.Forms.{Form, Slot, nothing, codes, words, amount, date, moment, narrative, other, formNumber, valueNumber}
 use Rattle.forms.specs.Slots.{formOf}
@@ -40,3 +41,8 @@ Measured slot s Not = Unit
 -- the slot that a line of the slots' bytes says
 unfoldable pub slotIn : List ℕ → List ℕ → Slot
 slotIn t s = record { fixed = take (getD s 3 0 % 17) (drop 4 s); form = formOf t (getD s 0 0) (getD s 1 0) (getD s 2 0) }
+
+-- the fixed text of such a line stands at the front of a text
+unfoldable pub FixedMeasured : List ℕ → List ℕ → Width → Type 0
+FixedMeasured s v (Is n) = (n ≡ getD s 3 0) × (n ≤ 16) × (begins (take n (drop 4 s)) v ≡ true)
+FixedMeasured s v Not = Unit

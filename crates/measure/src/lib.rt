@@ -11,7 +11,7 @@ ghost use lib.ListN.{length, take, getD};
 ghost use Rattle.text.specs.Classes.{allIn};
 ghost use Rattle.forms.specs.Forms.{codes, words, amount, date, moment, narrative};
 ghost use Rattle.forms.specs.Slots.{wordsIn, formOf, slotAt};
-ghost use Rattle.measure.specs.Measure.{FormMeasured, Measured, slotIn};
+ghost use Rattle.measure.specs.Measure.{FixedMeasured, FormMeasured, Measured};
 
 // So many bytes, or nothing is told.
 pub enum Width {
@@ -163,22 +163,35 @@ fn form_width(slots: &[u8], line: &[u8], text: &[u8]) -> Width
     }
 }
 
-// All of a value, by the slot's line. A line whose text is said to be longer than it can be tells nothing.
-fn line_width(slots: &[u8], line: &[u8], text: &[u8]) -> Width
+// The fixed text of a slot's line at the front of a text. A line whose text is said to be longer than it can be tells nothing.
+fn fixed_width(line: &[u8], text: &[u8]) -> Width
     requires { ⌜ length (now line) ≡ 20 ⌝ }
-    ensures { λ r. ⌜ Measured (slotIn (now (slots .entry)) (now (line .entry))) (now (text .entry)) r ⌝ }
+    ensures { λ r. ⌜ FixedMeasured (now (line .entry)) (now (text .entry)) r ⌝ }
 {
     let len = line[3] as usize;
     if 16 < len {
         return Width::Not;
     }
-    if !text::begins_with(text, &line[4..4 + len]) {
-        return Width::Not;
+    if text::begins_with(text, &line[4..4 + len]) {
+        Width::Is(len)
+    } else {
+        Width::Not
     }
-    let Width::Is(n) = form_width(slots, line, &text[len..]) else {
-        return Width::Not;
-    };
-    Width::Is(len + n)
+}
+
+// What follows the fixed text where the form is a code or nothing, as those of a header's lines are.
+fn plain_width(slots: &[u8], line: &[u8], text: &[u8]) -> Width
+    requires { ⌜ length (now line) ≡ 20 ⌝ }
+    ensures { λ r. ⌜ FormMeasured (formOf (now (slots .entry)) (getD (now (line .entry)) 0 0) (getD (now (line .entry)) 1 0) (getD (now (line .entry)) 2 0)) (now (text .entry)) r ⌝ }
+{
+    let kind = line[0];
+    let least = line[1];
+    let most = line[2];
+    match kind {
+        0 => Width::Is(0),
+        1 => code_width(text, least, most),
+        _ => Width::Not,
+    }
 }
 
 // How many bytes at the front of a text are a value of a slot, its fixed text with it. The number of a slot is a byte wherever one is
@@ -193,5 +206,31 @@ pub fn value(slots: &[u8], slot: usize, text: &[u8]) -> Width
     if slots.len() < at + 20 {
         return Width::Not;
     }
-    line_width(slots, &slots[at..at + 20], text)
+    let line = &slots[at..at + 20];
+    let Width::Is(len) = fixed_width(line, text) else {
+        return Width::Not;
+    };
+    let Width::Is(n) = form_width(slots, line, &text[len..]) else {
+        return Width::Not;
+    };
+    Width::Is(len + n)
+}
+
+// The same of a slot that takes a code or nothing, as those of a header's lines do; of another nothing is told. Being short it is laid
+// down where it is called, and so is `value`, which then has one caller.
+pub fn plain(slots: &[u8], slot: u8, text: &[u8]) -> Width
+    ensures { λ r. ⌜ Measured (slotAt (now (slots .entry)) slot) (now (text .entry)) r ⌝ }
+{
+    let at = slot as usize * 20;
+    if slots.len() < at + 20 {
+        return Width::Not;
+    }
+    let line = &slots[at..at + 20];
+    let Width::Is(len) = fixed_width(line, text) else {
+        return Width::Not;
+    };
+    let Width::Is(n) = plain_width(slots, line, &text[len..]) else {
+        return Width::Not;
+    };
+    Width::Is(len + n)
 }

@@ -1,20 +1,27 @@
 -- A message that a glance takes is read as the passes read it.
 -- Assumes nothing.
 use Prim.Native.Nat.{ℕ, _+_, _≤_}
-use mathlib.Core.Path.{_≡_, refl, sym, _∙_}
+use mathlib.Core.Path.{_≡_, refl, sym, ap, _∙_}
+use mathlib.Core.Bool.{Bool, true, false, cond}
 use mathlib.Core.List.{List}
 use native.Mathlib.Nat.{sub-zero}
 use native.Mathlib.Omega.{arith}
+use lib.Dec.{eqb}
 use lib.ListN.{length, take, drop, replicate}
 use lib.Seq.{length-take-le, take-all}
+use borrow.Author.Tests.{eqb-true}
 use Rattle.lines.specs.Verdicts.{pass, refused}
+use Rattle.lines.specs.declared.Verdict.{Verdict}
 use Rattle.stretches.specs.Stretches.{slotCount, stretchOf}
 use Rattle.pieces.specs.Pieces.{pieceOf}
 use Rattle.pieces.proofs.Laws.{piece-within, stretch-is}
 use Rattle.sheets.specs.Trees.{tableOf}
+use Rattle.walk.specs.declared.Body.{Body}
+use Rattle.reader.specs.Take.{placeless, takeOf}
 use Rattle.measure.specs.declared.Width.{Width}
 use Rattle.measure.specs.declared.Width.the-variants.{Is}
 use Rattle.glance.specs.Glance.{Says}
+use Rattle.format.specs.Reading as Any
 use Rattle.format.specs.Glancing.{GlancedIn}
 use Rattle.format.proofs.Glancing.{tables-clean, glance-takes}
 use Rattle.table.specs.Table.{header, slotOf}
@@ -22,7 +29,7 @@ use Rattle.table.specs.Tree.{tree}
 use Rattle.table.proofs.Laws.{slots-clean}
 use Rattle.values.specs.Mt515.{mt515}
 use Rattle.values.proofs.Laid.{layout}
-use Rattle.mt515.specs.Reading.{judged, readOf, frontOf}
+use Rattle.mt515.specs.Reading.{judged, verdictOf, readOf, frontOf, placesOf}
 use Rattle.mt515.specs.declared.Reading.{Reading}
 use Rattle.mt515.proofs.Chain.{judged-is}
 
@@ -67,3 +74,25 @@ module _ (s : List ℕ) (end : ℕ) (is : end ≡ 0 + length (pieceOf (drop 0 s)
       let l : end ≡ length (pieceOf s) = omega (arith, is) in
       let p : take end s ≡ pieceOf s = rw sub-zero at (stretch-is s 0 end is) in
       rw (e, p, l)
+
+-- ---- the places
+
+-- what was taken of a message, by how it is read
+pub kept-is : (m : List ℕ) (r : Reading) (b : Body) → r ≡ readOf m → (r .number ≡ 0 → b ≡ takeOf (tableOf tree) slotOf header m)
+    → cond (eqb (r .number) 0) b (placeless (record { number = r .number; line = r .line })) ≡ placesOf m
+unfolding placesOf readOf Any.readOf Any.reading
+kept-is m r b e t =
+    let n : r .number ≡ verdictOf m .number = ap (λ (x : Reading). x .number) e in
+    let l : r .line ≡ verdictOf m .line = ap (λ (x : Reading). x .line) e in
+    rw (← n, ← l) (on (eqb (r .number) 0) refl)
+  where
+    on : (x : Bool) → eqb (r .number) 0 ≡ x
+        → cond x b (placeless (record { number = r .number; line = r .line })) ≡ cond x (takeOf (tableOf tree) slotOf header m) (placeless (record { number = r .number; line = r .line }))
+    on true q = t (eqb-true (r .number) 0 q)
+    on false q = refl
+
+module _ (s starts ends : List ℕ) (w : Width) (n : ℕ) (is : w ≡ Is n) (t : Told s starts ends w) where
+  pub glanced-body : n ≡ length s → record { verdict = pass; starts = starts; ends = ends } ≡ takeOf (tableOf tree) slotOf header s
+  glanced-body e =
+      let l : length s ≤ n = omega arith in
+      sym (rw (take-all n s l) at (glance-takes mt515 layout s starts ends n (glanced s starts ends w n is t) .0))

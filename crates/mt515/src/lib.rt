@@ -4,10 +4,14 @@
 use lines::Verdict;
 use measure::Width;
 use trade::Trade;
+use walk::Body;
 ghost use mathlib.Core.Path.{_≡_};
+ghost use mathlib.Core.Bool.{cond};
+ghost use lib.Dec.{eqb};
 ghost use Rattle.trade.specs.Records.{blankTrade};
 ghost use Rattle.stretches.specs.Stretches.{stretchOf};
-ghost use Rattle.mt515.specs.Reading.{judged, readOf, frontOf};
+ghost use Rattle.reader.specs.Take.{placeless};
+ghost use Rattle.mt515.specs.Reading.{judged, readOf, frontOf, placesOf};
 
 // What the desk gets back of a message: 0 and the record, or a number and a line with the blank record beside them.
 pub struct Reading {
@@ -106,4 +110,58 @@ pub fn read_front(text: &[u8]) -> Front
         };
     }
     front_by_passes(text)
+}
+
+// What was taken of an accepted message; beside a refusal there are no places.
+fn kept(reading: Reading, body: Body) -> Body
+    ensures { λ r. ⌜ r ≡ cond (eqb (reading .number) 0) body (placeless (record { number = reading .number; line = reading .line })) ⌝ }
+{
+    if reading.number == 0 {
+        return body;
+    }
+    Body {
+        verdict: Verdict {
+            number: reading.number,
+            line: reading.line,
+        },
+        starts: [0usize; stretches::SLOTS],
+        ends: [0usize; stretches::SLOTS],
+    }
+}
+
+// Where the values of a message stand, by the passes in their order.
+fn places_by_passes(message: &[u8]) -> Body
+    ensures { λ r. ⌜ r ≡ placesOf (now (message .entry)) ⌝ }
+{
+    let body = table::take(message);
+    let verdict = body.verdict;
+    if verdict.number != 0 {
+        return kept(refuse(verdict), body);
+    }
+    let starts = body.starts;
+    let ends = body.ends;
+    kept(judge(message, &starts, &ends), body)
+}
+
+// Where the values of an accepted message stand, with the number and line of its reading; a refusal keeps no places.
+pub fn places(message: &[u8]) -> Body
+    ensures { λ r. ⌜ r ≡ placesOf (now (message .entry)) ⌝ }
+{
+    let mut starts = [0usize; stretches::SLOTS];
+    let mut ends = [0usize; stretches::SLOTS];
+    let width = table::glance(message, &mut starts, &mut ends);
+    if let Width::Is(n) = width {
+        if n == message.len() {
+            let reading = judge(message, &starts, &ends);
+            return kept(
+                reading,
+                Body {
+                    verdict: Verdict::PASS,
+                    starts,
+                    ends,
+                },
+            );
+        }
+    }
+    places_by_passes(message)
 }

@@ -5,8 +5,8 @@ use borrow.Author.Needs.{needs}
 use Rattle.glance.proofs.head_line.Statement.{statement}
 use Rattle.glance.proofs.head_line.Tie as tie
 
-value-requires : tie.Need-value-requires
-value-requires c κs = search needs
+plain-requires : tie.Need-plain-requires
+plain-requires c κs = search needs
 
 enum-known-end : tie.Need-enum-known-end
 enum-known-end c = search needs
@@ -36,14 +36,14 @@ unfolding HeadSeen Ends Measured
 returns-3 c =
     let b = c .before .before .before in
     let v = b .before .before .before .before in
-    let m = rw (b .before .before .end .given .1) at (v .value .ensures) in
+    let m = rw (b .before .before .end .given .1) at (v .plain .ensures) in
     (rw (c .before .next .given .1) at (b .behind .ensures), m .1, m .2)
 
 pub head-line-spec : {M : Type 1} → statement M
 head-line-spec =
     tie.close
     (tie.spec
-    value-requires
+    plain-requires
     enum-known-end
     enum-told
     returns

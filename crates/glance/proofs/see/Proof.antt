@@ -1,4 +1,6 @@
 -- `glance::see` meets its contract. Assumes nothing.
+use mathlib.Core.Path.{sym, _∙_}
+use mathlib.Core.Bool.{true≢false}
 use Rattle.glance.proofs.Sights.{edge-sees, field-sees}
 use Rattle.fitting.specs.Fitting.{Fitted}
 use Rattle.glance.specs.Steps.{Told, FieldSeen, Sees}
@@ -24,6 +26,9 @@ told-field-requires c κs = search needs
 enum-told : tie.Need-enum-told
 enum-told c = search needs
 
+nothing-requires : tie.Need-nothing-requires
+nothing-requires c κs = search needs
+
 returns : tie.Need-returns
 returns c =
     let s = c .before .before in
@@ -36,7 +41,7 @@ returns-2 c =
 
 returns-3 : tie.Need-returns-3
 unfolding Sees
-returns-3 c = tt
+returns-3 c = λ t. absurd (true≢false (sym t ∙ c .nothing .ensures))
 
 pub see-spec : {M : Type 1} → statement M
 see-spec =
@@ -48,6 +53,7 @@ see-spec =
     enum-known-step-2
     told-field-requires
     enum-told
+    nothing-requires
     returns
     returns-2
     returns-3)

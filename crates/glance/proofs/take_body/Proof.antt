@@ -1,16 +1,17 @@
 -- `glance::take_body` meets its contract. The loop's invariant: the lines so far, whatever follows them, and the places kept of them.
 -- Assumes nothing.
 use Prim.Native.Nat.{_+_, _-_, _≤_, _<_}
-use mathlib.Core.Path.{refl, sym}
+use mathlib.Core.Path.{_≡_, refl, sym}
+use mathlib.Core.Bool.{true}
 use lib.ListN.{length, drop}
 use native.Mathlib.Omega.{arith}
 use denote.Ref.{now}
+use borrow.Author.Tests.{not-false}
 use Rattle.text.proofs.Laws.{rest-of}
 use borrow.Author.Needs.{needs}
 use Rattle.layout.specs.Rows.{rowsOf}
 use Rattle.forms.specs.Slots.{slotAt}
 use Rattle.glance.specs.Steps.{Sees, BodySays}
-use Rattle.glance.specs.declared.Sight.the-variants as Sights
 use Rattle.glance.proofs.Turns.{Body, body-begin, body-again, body-says, within}
 use Rattle.glance.proofs.take_body.Statement.{statement}
 use Rattle.glance.proofs.take_body.Tie as tie
@@ -23,26 +24,34 @@ abbrev μ-loop : tie.MeasureT-loop
 μ-loop text from rows slots starts₀ ends₀ count seen₀ here₀ last₀ stop₀ at₀ starts ends seen here last stop at =
     length text - at
 
-abbrev start : tie.After-taken Inv-loop μ-loop → tie.At-loop Inv-loop μ-loop
-start c = c .before .before .before .before .before .before .before
+abbrev start : tie.After-see Inv-loop μ-loop → tie.At-loop Inv-loop μ-loop
+start c = c .before .before .before .before .before
 
--- a line that was told, from where it was looked for
-told : (c : tie.After-taken Inv-loop μ-loop)
+-- a line that was looked for, from where that was
+looked : (c : tie.After-see Inv-loop μ-loop)
     → Sees (rowsOf (now (start c .before .before .before .before .before .before .args .rows))) (slotAt (now (start c .before .before .before .before .before .before .args .slots))) (start c .loop .here) (start c .loop .seen)
-    (drop (start c .loop .at) (now (start c .before .before .before .before .before .before .args .text))) (Sights.Told (c .taken .given .0 .0))
-told c =
+    (drop (start c .loop .at) (now (start c .before .before .before .before .before .before .args .text))) (c .see .result)
+looked c =
     let s = now (start c .before .before .before .before .before .before .args .text) in
-    rw (c .taken .given .1, rest-of (start c .loop .at) (length s) s refl) at (c .before .before .see .ensures)
+    rw (rest-of (start c .loop .at) (length s) s refl) at (c .see .ensures)
 
--- and it ends within the text
-ends-in : (c : tie.After-taken Inv-loop μ-loop)
-    → (start c .loop .at + c .taken .given .0 .0 .next ≤ length (now (start c .before .before .before .before .before .before .args .text))) × (c .taken .given .0 .0 .end < c .taken .given .0 .0 .next) × (c .taken .given .0 .0 .value ≤ c .taken .given .0 .0 .end)
+-- it was told
+is-told : (c : tie.Else2 Inv-loop μ-loop) → c .before .before .see .result .told ≡ true
+is-told c = not-false _ (c .if2 .left)
+
+-- and ends within the text
+ends-in : (c : tie.Else2 Inv-loop μ-loop)
+    → (start (c .before .before) .loop .at + c .before .before .see .result .next ≤ length (now (start (c .before .before) .before .before .before .before .before .before .args .text)))
+    × (c .before .before .see .result .end < c .before .before .see .result .next) × (c .before .before .see .result .value ≤ c .before .before .see .result .end)
 unfolding Sees
-ends-in c = let w = within _ _ _ _ (start c .loop .inv .place) (told c .1) in (w .0, w .1, told c .0)
+ends-in c =
+    let t = looked (c .before .before) (is-told c) in
+    let w = within _ _ _ _ (start (c .before .before) .loop .inv .place) (t .1) in
+    (w .0, w .1, t .0)
 
 -- the end of a turn: the line that it began with
-abbrev turn : tie.After-struct-known4 Inv-loop μ-loop → tie.After-taken Inv-loop μ-loop
-turn c = c .before .before .before .before .before .before .before .before .before .before .before .before .before .before .before
+abbrev turn : tie.After-struct-known5 Inv-loop μ-loop → tie.Else2 Inv-loop μ-loop
+turn c = c .before .before .before .before .before .before .before .before .before .before .before .before .before .before
 
 loop-holds : tie.Need-loop-holds Inv-loop μ-loop
 loop-holds c = body-begin _ _ _ _ _ _ (c .before .before .before .before .before .pre)
@@ -62,12 +71,6 @@ slice-aggregate-see c = search needs
 see-requires : tie.Need-see-requires Inv-loop μ-loop
 see-requires c κs = search needs
 
-enum-known-taken : tie.Need-enum-known-taken Inv-loop μ-loop
-enum-known-taken c = search needs
-
-enum-told : tie.Need-enum-told Inv-loop μ-loop
-enum-told c = search needs
-
 same-length : tie.Need-same-length Inv-loop μ-loop
 same-length c = search needs
 
@@ -79,22 +82,22 @@ unfolding BodySays
 returns c = tt
 
 add-stop : tie.Need-add-stop Inv-loop μ-loop
-add-stop c = let t = c .before .before in let w = ends-in t in omega (arith, w .0, w .1, start t .before .before .before .before .before .before .good .0 .1)
+add-stop c = let w = ends-in (c .before) in omega (arith, w .0, w .1, start (c .before .before .before) .before .before .before .before .before .before .good .0 .1)
 
 add-keep-value : tie.Need-add-keep-value Inv-loop μ-loop
-add-keep-value c = let t = c .before .before .before .before .before in let w = ends-in t in omega (arith, w .0, w .1, w .2, start t .before .before .before .before .before .before .good .0 .1)
+add-keep-value c = let t = c .before .before .before .before in let w = ends-in t in omega (arith, w .0, w .1, w .2, start (t .before .before) .before .before .before .before .before .before .good .0 .1)
 
 keep-value-requires : tie.Need-keep-value-requires Inv-loop μ-loop
-keep-value-requires c κs = let t = c .before .before .before .before .before in let w = ends-in t in omega (arith, w .0, w .1, w .2, start t .before .before .before .before .before .before .good .0 .1)
+keep-value-requires c κs = let t = c .before .before .before .before in let w = ends-in t in omega (arith, w .0, w .1, w .2, start (t .before .before) .before .before .before .before .before .before .good .0 .1)
 
 slice-aggregate-mark : tie.Need-slice-aggregate-mark Inv-loop μ-loop
-slice-aggregate-mark c = sym (start (c .before .before .before .before .before .before .before .before .before .before .before) .loop .inv .seen-long)
+slice-aggregate-mark c = sym (start (c .before .before .before .before .before .before .before .before .before .before .before .before) .loop .inv .seen-long)
 
 mark-requires : tie.Need-mark-requires Inv-loop μ-loop
 mark-requires c κs = search needs
 
 add-at : tie.Need-add-at Inv-loop μ-loop
-add-at c = let t = turn c in omega (arith, ends-in t .0, start t .before .before .before .before .before .before .good .0 .1)
+add-at c = let t = turn c in omega (arith, ends-in t .0, start (t .before .before) .before .before .before .before .before .before .good .0 .1)
 
 loop-less : tie.Need-loop-less Inv-loop μ-loop
 loop-less c = let w = ends-in (turn c) in omega (arith, w .0, w .1)
@@ -104,7 +107,7 @@ loop-again c =
     let t = turn c in
     let m = c .before .before .before in
     let k = m .before .before .before .before .before .before in
-    body-again _ _ _ _ _ _ _ _ _ _ _ _ _ (start t .loop .inv) _ (told t) _ _ _ (k .keep-value .ensures .0) (k .keep-value .ensures .1) (m .mark .ensures)
+    body-again _ _ _ _ _ _ _ _ _ _ _ _ _ (start (t .before .before) .loop .inv) _ (is-told t) (looked (t .before .before)) _ _ _ (k .keep-value .ensures .0) (k .keep-value .ensures .1) (m .mark .ensures)
 
 closed-requires : tie.Need-closed-requires Inv-loop μ-loop
 closed-requires c κs = search needs
@@ -130,8 +133,6 @@ take-body-spec =
     part-see-end
     slice-aggregate-see
     see-requires
-    enum-known-taken
-    enum-told
     same-length
     same-length-2
     returns

@@ -1,5 +1,6 @@
 -- `glance::told_field` meets its contract. Assumes nothing.
-use mathlib.Core.Path.{refl}
+use mathlib.Core.Path.{refl, sym, _∙_}
+use mathlib.Core.Bool.{true≢false}
 use native.Mathlib.Omega.{arith}
 use lib.ListN.{length, drop, length-drop}
 use denote.Ref.{now}
@@ -21,9 +22,12 @@ measured n =
     let k = n .before .before .before .before .before .before .before .args .width in
     rw (n .n .given .1, rest-of k (length s) s refl) at (n .before .before .value .ensures)
 
+nothing-requires : tie.Need-nothing-requires
+nothing-requires c κs = search needs
+
 returns : tie.Need-returns
 unfolding FieldSeen
-returns c = tt
+returns c = λ t. absurd (true≢false (sym t ∙ c .nothing .ensures))
 
 sub-value : tie.Need-sub-value
 sub-value c = search needs
@@ -43,9 +47,12 @@ enum-known-n c = search needs
 enum-told : tie.Need-enum-told
 enum-told c = search needs
 
+nothing-requires-2 : tie.Need-nothing-requires-2
+nothing-requires-2 c κs = search needs
+
 returns-2 : tie.Need-returns-2
 unfolding FieldSeen
-returns-2 c = tt
+returns-2 c = λ t. absurd (true≢false (sym t ∙ c .nothing2 .ensures))
 
 add-told : tie.Need-add-told
 unfolding Measured
@@ -69,6 +76,7 @@ pub told-field-spec : {M : Type 1} → statement M
 told-field-spec =
     tie.close
     (tie.spec
+    nothing-requires
     returns
     sub-value
     part-value-start
@@ -76,6 +84,7 @@ told-field-spec =
     value-requires
     enum-known-n
     enum-told
+    nothing-requires-2
     returns-2
     add-told
     told-requires
