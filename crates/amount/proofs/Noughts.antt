@@ -1,29 +1,32 @@
--- The mathematics of the crate's functions, over plain lists and numbers: the two scans for noughts, the meaning of two
--- parts, and the line that an amount is put from.
+-- The mathematics of the crate's functions, over plain lists and numbers: the two scans for noughts, the meaning of a
+-- whole part and decimals, and the line that an amount is put from.
 -- Assumes nothing.
 use Prim.Native.Nat.{ℕ, suc, _+_, _-_, _*_, _^_, _≤_, _<_}
 use mathlib.Core.Path.{_≡_, sym, ap, _∙_}
-use mathlib.Core.Bool.{true, false, and-false, true≢false}
+use mathlib.Core.Bool.{true, false, and-false}
 use mathlib.Core.List.{List, [], _∷_, _++_, append-nil}
 use native.Mathlib.Nat.{add-zero, zero-add, lt-trans, lt-of-lt-of-le, pow-le-pow-right}
 use native.Mathlib.Numerals.{add-one}
 use native.Mathlib.Omega.{arith}
-use lib.Dec.{ltb, lit<}
+use lib.Arith.{digits-lt}
+use lib.Dec.{leb, ltb, lit<}
 use lib.ListN.{length, take, drop, getD, replicate, length-append, length-take, length-drop, length-replicate, drop-of-length-le}
 use lib.Seq.{drop-cons, take-suc, length-take-le, append-snoc, take-at, take-append-le, drop-append-le}
 use borrow.Author.Tests.{le-leb, lt-leb, lt-ltb, le-ltb, eq-eqb, ne-eqb}
-use Rattle.text.specs.Classes.{allIn}
+use Rattle.text.specs.Bytes.{before}
+use Rattle.text.specs.Classes.{allIn, inClass}
 use Rattle.text.specs.Copy.{over, fits, placed}
 use Rattle.text.specs.declared.Class.the-variants.{Digit}
-use Rattle.text.proofs.Laws.{and-both, all-append, before-front, before-length, drop-replicate, rest-of, placed-all}
-use Rattle.digits.specs.Numerals.{numeral, digits, numberOf, tenTo}
+use Rattle.text.proofs.Laws.{all-append, drop-replicate, rest-of, placed-all}
+use Rattle.digits.specs.Numerals.{numeral, digits, digitRun, shortRun, numberOf, tenTo}
 use Rattle.digits.specs.declared.Number.the-variants.{Is, Not}
-use Rattle.digits.proofs.Laws.{number-is, number-not, numeral-lt, numeral-append, length-digits}
+use Rattle.digits.proofs.Laws.{pow-add, number-is, number-not, numeral-lt, numeral-append, length-digits, run-length, run-digits, run-next}
+use Rattle.digits.proofs.Spelling.{Ran}
 use Rattle.amount.specs.Amounts.{whole, decimals, isAmount, trimmed, shortened, meaningOf, meaning, amountRead, partsRead, inForm, spread, amountText, noughts}
 use Rattle.amount.specs.declared.Amount.{Amount}
 use Rattle.amount.specs.declared.AmountRead.the-variants.{Good, Wrong}
 use Rattle.amount.proofs.Laws.{few-decimals, front, rest, rest-length, rest-stays, text-parts}
-use Rattle.amount.proofs.Trims.{trimmed-drop, noughts-length, shortened-snoc, shortened-front, shortened-length, shortened-digits}
+use Rattle.amount.proofs.Trims.{trimmed-drop, noughts-length, shortened-snoc, shortened-front, shortened-length, shortened-all, whole-run}
 
 -- ---- the noughts at the end of decimals
 
@@ -60,54 +63,43 @@ module _ (s : List ℕ) (i : ℕ) (inv : noughts s ≡ i + noughts (drop i s)) w
   unfolding noughts
   leads-all h = sym (inv ∙ rw (drop-of-length-le s h) (add-zero i))
 
--- ---- the meaning of two parts
+-- ---- the meaning of a whole part's number and decimals
 
-module _ (w f : List ℕ) where
-  pub rest-wrong : allIn Digit f ≡ false → Wrong ≡ partsRead w f
-  unfolding partsRead
-  rest-wrong e = rw (e, and-false (allIn Digit w))
+module _ (n : ℕ) (f : List ℕ) (k : ℕ) (kept : k ≡ length (shortened f)) where
+  front-is : take k f ≡ shortened f
+  front-is = ap (λ (i : ℕ). take i f) kept ∙ shortened-front f
 
-  module _ (few : length w + length f ≤ 14) where
-    pub whole-wrong : numberOf w ≡ Not → Wrong ≡ partsRead w f
+  pub within : k ≤ length f
+  within = let l = shortened-length f in omega arith
+
+  module _ (few : length f ≤ 13) (low : n < 10 ^ (14 - length f)) where
+    pub rest-wrong : numberOf (take k f) ≡ Not → Wrong ≡ partsRead n f
     unfolding partsRead
-    whole-wrong e = rw (number-not w (omega arith) e)
+    rest-wrong e =
+        let l = shortened-length f in
+        let d : allIn Digit f ≡ false = shortened-all f ∙ number-not (shortened f) (omega arith) (sym (ap numberOf front-is) ∙ e) in
+        rw d
 
-    module _ (k : ℕ) (kept : k ≡ length (shortened f)) (rests : allIn Digit f ≡ true) where
-      front-is : take k f ≡ shortened f
-      front-is = ap (λ (i : ℕ). take i f) kept ∙ shortened-front f
+    module _ (m t : ℕ) (tail : numberOf (take k f) ≡ Is m) (power : t ≡ tenTo k) where
+      power-is : t ≡ 10 ^ length (shortened f)
+      unfolding tenTo
+      power-is = let l = shortened-length f in power ∙ rw (kept, lt-ltb (length (shortened f)) 15 (omega arith))
 
-      pub within : k ≤ length f
-      within = let l = shortened-length f in omega arith
+      tail-is : (allIn Digit (shortened f) ≡ true) × (numeral (shortened f) ≡ m)
+      tail-is = number-is (shortened f) m (sym (ap numberOf front-is) ∙ tail)
 
-      -- decimals that are digits have a number
-      pub never-not : numberOf (take k f) ≡ Not → ⊥
-      never-not e =
+      pub room : n * t + m < 2 ^ 64
+      room =
           let l = shortened-length f in
-          true≢false (sym (shortened-digits f rests) ∙ number-not (shortened f) (omega arith) (sym (ap numberOf front-is) ∙ e))
+          let e : ℕ = length (shortened f) in
+          let j : 14 - length f + e ≤ 14 = omega arith in
+          let a : n * 10 ^ e + numeral (shortened f) < 10 ^ (14 - length f) * 10 ^ e = digits-lt low (numeral-lt (shortened f) (tail-is .0)) in
+          let b : 10 ^ (14 - length f) * 10 ^ e ≤ 10 ^ 14 = rw (pow-add (14 - length f) e) at (pow-le-pow-right {n = 10} (lit< tt) j) in
+          rw (power-is, ← tail-is .1) (lt-trans (lt-of-lt-of-le a b) (lit< tt))
 
-      module _ (n m t : ℕ) (first : numberOf w ≡ Is n) (second : numberOf (take k f) ≡ Is m) (power : t ≡ tenTo k) where
-        power-is : t ≡ 10 ^ length (shortened f)
-        unfolding tenTo
-        power-is = let l = shortened-length f in power ∙ rw (kept, lt-ltb (length (shortened f)) 15 (omega arith))
-
-        joined-is : n * t + m ≡ numeral (w ++ shortened f)
-        joined-is =
-            let a = number-is w n first in
-            let b = number-is (shortened f) m (sym (ap numberOf front-is) ∙ second) in
-            rw (power-is, ← a .1, ← b .1) (sym (numeral-append w (shortened f)))
-
-        pub room : n * t + m < 2 ^ 64
-        room =
-            let a = number-is w n first in
-            let d : allIn Digit (w ++ shortened f) ≡ true = all-append Digit w (shortened f) ∙ and-both (a .0) (shortened-digits f rests) in
-            let l = shortened-length f in
-            let j : length (w ++ shortened f) ≤ 14 = rw length-append (omega arith) in
-            let s : numeral (w ++ shortened f) < 10 ^ 14 = lt-of-lt-of-le (numeral-lt (w ++ shortened f) d) (pow-le-pow-right (lit< tt) j) in
-            rw joined-is (lt-trans s (lit< tt))
-
-        pub parts-good : Good (record { number = n * t + m; decimals = k }) ≡ partsRead w f
-        unfolding partsRead meaningOf
-        parts-good = rw (number-is w n first .0, rests, joined-is, kept)
+      pub parts-good : Good (record { number = n * t + m; decimals = k }) ≡ partsRead n f
+      unfolding partsRead
+      parts-good = rw (shortened-all f, tail-is .0, power-is, ← tail-is .1, kept)
 
 -- ---- a text and its comma
 
@@ -116,36 +108,77 @@ module _ (s : List ℕ) where
   unfolding amountRead isAmount
   too-long h = rw (lt-leb (length s) 15 h)
 
-  module _ (short : length s ≤ 15) (k : ℕ) (cut : k ≡ length (whole s)) where
+  wrong-whole : allIn Digit (whole s) ≡ false → Wrong ≡ amountRead s
+  unfolding amountRead isAmount
+  wrong-whole e = rw (e, and-false (leb 1 (length (whole s))), and-false (ltb (length (whole s)) (length s)), and-false (leb (length s) 15))
+
+  module _ (short : length s ≤ 15) (n k : ℕ) (ran : Ran s n k) where
+    spelled : n ≡ numeral (digitRun s)
+    unfolding shortRun
+    spelled = rw (le-leb (length s) 18 (omega arith)) at (ran .0)
+
+    counted : k ≡ length (digitRun s)
+    unfolding shortRun
+    counted = rw (le-leb (length s) 18 (omega arith)) at (ran .1)
+
+    whole-from : whole s ≡ digitRun s ++ whole (drop k s)
+    whole-from = rw counted (whole-run s)
+
     pub no-comma : k ≡ length s → Wrong ≡ amountRead s
-    unfolding amountRead isAmount
-    no-comma h = rw (le-leb (length s) 15 short, ← cut, h, le-ltb (length s) (length s) (omega arith))
+    unfolding amountRead isAmount whole before
+    no-comma h =
+        let l : length s ≤ k = omega arith in
+        let nil : drop k s ≡ [] = drop-of-length-le s l in
+        let e : whole s ≡ digitRun s = whole-from ∙ rw (nil, append-nil) in
+        rw (le-leb (length s) 15 short, e, ← counted, h, le-ltb (length s) (length s) (omega arith))
 
-    pub no-whole : k ≡ 0 → Wrong ≡ amountRead s
-    unfolding amountRead isAmount
-    no-whole h = rw (le-leb (length s) 15 short, ← cut, h, and-false (ltb 0 (length s)))
+    module _ (more : k ≡ length s → ⊥) where
+      pub inside : k < length s
+      inside = let l = run-length s in let e = counted in omega arith
 
-    pub inside : k ≤ length s
-    unfolding whole
-    inside = let l = before-length 44 s in omega arith
+      next-is : drop k s ≡ getD s k 0 ∷ drop (suc k) s
+      next-is = drop-cons s k 0 inside
 
-    module _ (comma : k ≡ length s → ⊥) (some : k ≡ 0 → ⊥) where
-      pub behind : k + 1 ≤ length s
-      behind = let l = inside in omega arith
+      -- what stands behind the digits is neither a digit nor the comma
+      pub no-digit : (getD s k 0 ≡ 44 → ⊥) → Wrong ≡ amountRead s
+      unfolding whole before allIn
+      no-digit h =
+          let d : inClass Digit (getD s k 0) ≡ false = rw counted (run-next s (rw counted at inside)) in
+          let w : whole s ≡ digitRun s ++ getD s k 0 ∷ whole (drop (suc k) s) = whole-from ∙ rw (next-is, ne-eqb (getD s k 0) 44 h) in
+          wrong-whole (ap (allIn Digit) w ∙ all-append Digit (digitRun s) _ ∙ rw (d, and-false (allIn Digit (digitRun s))))
 
-      pub few : (rest : List ℕ) → rest ≡ drop (k + 1) s → length (take k s) + length rest ≤ 14
-      few rest e = let l = behind in rw (e, length-take, length-drop) (omega arith)
+      module _ (comma : getD s k 0 ≡ 44) where
+        whole-is : whole s ≡ digitRun s
+        unfolding whole before
+        whole-is = whole-from ∙ rw (next-is, comma, append-nil)
 
-      whole-is : take k s ≡ whole s
-      unfolding whole
-      whole-is = ap (λ (i : ℕ). take i s) cut ∙ before-front 44 s
+        whole-count : length (whole s) ≡ k
+        whole-count = ap length whole-is ∙ sym counted
 
-      pub parts-are : (rest : List ℕ) → rest ≡ drop (k + 1) s → partsRead (take k s) rest ≡ amountRead s
-      unfolding partsRead amountRead isAmount meaning decimals
-      parts-are rest e =
-          let l = behind in
-          let d : rest ≡ decimals s = e ∙ ap (λ (i : ℕ). drop (i + 1) s) cut in
-          rw (whole-is, d, le-leb (length s) 15 short, lt-ltb (length (whole s)) (length s) (omega arith), le-leb 1 (length (whole s)) (omega arith))
+        pub no-whole : k ≡ 0 → Wrong ≡ amountRead s
+        unfolding amountRead isAmount
+        no-whole h = rw (le-leb (length s) 15 short, whole-count, h, and-false (ltb 0 (length s)))
+
+        module _ (some : k ≡ 0 → ⊥) (rest : List ℕ) (is : rest ≡ drop (k + 1) s) where
+          rest-count : length rest + k + 1 ≡ length s
+          rest-count = let l = inside in rw (is, length-drop) (omega arith)
+
+          pub few : (length rest ≤ 13) × (n < 10 ^ (14 - length rest))
+          few =
+              let l = rest-count in
+              let e = counted in
+              let d : length (digitRun s) ≤ 14 - length rest = omega arith in
+              (omega arith, rw spelled (lt-of-lt-of-le (numeral-lt (digitRun s) (run-digits s)) (pow-le-pow-right (lit< tt) d)))
+
+          pub parts-are : partsRead n rest ≡ amountRead s
+          unfolding partsRead amountRead isAmount meaning meaningOf decimals
+          parts-are =
+              let l = inside in
+              let d : rest ≡ drop (length (whole s) + 1) s = is ∙ rw whole-count in
+              let v : n * 10 ^ length (shortened rest) + numeral (shortened rest) ≡ numeral (whole s ++ shortened rest) =
+              rw (spelled, whole-is) (sym (numeral-append (digitRun s) (shortened rest)))
+              in let a : allIn Digit (whole s) ≡ true = ap (allIn Digit) whole-is ∙ run-digits s
+              in rw (← d, v, le-leb (length s) 15 short, whole-count, lt-ltb k (length s) l, le-leb 1 k (omega arith), a)
 
 -- ---- the line that an amount is put from
 

@@ -3,7 +3,7 @@
 -- Assumes nothing.
 use Prim.Native.Nat.{ℕ, zero, suc, _+_, _-_, _≤_, _<_}
 use mathlib.Core.Path.{_≡_, refl, sym, ap, _∙_}
-use mathlib.Core.Bool.{Bool, true, false, cond}
+use mathlib.Core.Bool.{Bool, true, false, cond, and-true, true≢false}
 use mathlib.Core.List.{List, [], _∷_, _++_, append-assoc}
 use mathlib.Core.Logic.{_⊎_, inl, inr, ⊎-elim}
 use native.Mathlib.Nat.{not-suc-le-zero, zero-mul, zero-add}
@@ -13,10 +13,11 @@ use lib.Dec.{eqb}
 use lib.ListN.{length, take, drop, replicate, length-append}
 use lib.Seq.{take-at, drop-at, append-snoc}
 use borrow.Author.Tests.{ne-eqb, eqb-true, eqb-false}
+use Rattle.text.specs.Bytes.{before}
 use Rattle.text.specs.Classes.{allIn, inClass, isDigit, isBetween}
 use Rattle.text.specs.declared.Class.the-variants.{Digit}
-use Rattle.text.proofs.Laws.{and-left, and-right, all-append, before-of, before-split}
-use Rattle.digits.specs.Numerals.{numeral, numeralFrom}
+use Rattle.text.proofs.Laws.{and-right, all-append, before-of, before-split}
+use Rattle.digits.specs.Numerals.{numeral, numeralFrom, digitRun}
 use Rattle.digits.proofs.Laws.{numeral-append}
 use Rattle.amount.specs.Amounts.{whole, decimals, trimmed, keptBefore, shortened, noughts}
 
@@ -35,6 +36,19 @@ decimals-of w f e = rw (whole-of w f e, ← append-snoc w 44 f) (drop-at (w ++ 4
 pub split : (s : List ℕ) → length (whole s) < length s → s ≡ whole s ++ 44 ∷ decimals s
 unfolding whole decimals
 split s h = rw add-one (before-split 44 s h)
+
+-- the digits in front stand before the comma, with what stands before it behind them
+pub whole-run : (s : List ℕ) → whole s ≡ digitRun s ++ whole (drop (length (digitRun s)) s)
+unfolding whole before digitRun inClass isDigit isBetween
+whole-run [] = refl
+whole-run (b ∷ s) = go (whole-run s) (inClass Digit b) refl
+  where
+    go : whole s ≡ digitRun s ++ whole (drop (length (digitRun s)) s) → (t : Bool) → inClass Digit b ≡ t
+        → whole (b ∷ s) ≡ cond t (b ∷ digitRun s) [] ++ whole (drop (length (cond t (b ∷ digitRun s) [])) (b ∷ s))
+    go ih true e =
+        let other : b ≡ 44 → ⊥ = λ h. true≢false (sym e ∙ rw h) in
+        rw (ne-eqb b 44 other) (ap (λ (l : List ℕ). b ∷ l) ih)
+    go ih false e = refl
 
 -- ---- the noughts in front
 
@@ -128,6 +142,11 @@ unfolding shortened
 tail-is [] = record { count = 0; is = refl }
 tail-is (b ∷ s) = joined-tail b s (shortened s) (tail-is s)
 
+all-noughts : (k : ℕ) → allIn Digit (replicate {A = ℕ} k 48) ≡ true
+unfolding allIn inClass isDigit isBetween
+all-noughts zero = refl
+all-noughts (suc k) = all-noughts k
+
 module _ (f : List ℕ) where
   -- what is left is what the decimals begin with
   pub shortened-front : take (length (shortened f)) f ≡ shortened f
@@ -139,10 +158,15 @@ module _ (f : List ℕ) where
       let l : length f ≡ length (shortened f) + length (replicate {A = ℕ} (w .count) 48) = ap length (w .is) ∙ length-append (shortened f) _ in
       omega arith
 
-  pub shortened-digits : allIn Digit f ≡ true → allIn Digit (shortened f) ≡ true
-  shortened-digits e =
+  -- noughts are digits
+  pub shortened-all : allIn Digit f ≡ allIn Digit (shortened f)
+  shortened-all =
       let w = tail-is f in
-      and-left _ _ (sym (all-append Digit (shortened f) (replicate {A = ℕ} (w .count) 48)) ∙ sym (ap (allIn Digit) (w .is)) ∙ e)
+      ap (allIn Digit) (w .is) ∙ all-append Digit (shortened f) (replicate {A = ℕ} (w .count) 48)
+      ∙ rw (all-noughts (w .count), and-true (allIn Digit (shortened f)))
+
+  pub shortened-digits : allIn Digit f ≡ true → allIn Digit (shortened f) ≡ true
+  shortened-digits e = sym shortened-all ∙ e
 
 -- ---- what trimming keeps
 

@@ -1,6 +1,6 @@
 -- Document 01, "Amounts": 1 to 15 characters, digits and exactly one comma, with at least one digit before the comma. The
 -- meaning is a whole number of the digits and a count of decimals, with nothing lost.
-use Prim.Native.Nat.{ℕ, suc, _+_, _-_, _%_, _^_}
+use Prim.Native.Nat.{ℕ, suc, _+_, _-_, _*_, _%_, _^_}
 use mathlib.Core.Bool.{Bool, _&&_, _||_, not, cond}
 use mathlib.Core.List.{List, [], _∷_, _++_}
 use lib.Dec.{leb, ltb, eqb}
@@ -94,6 +94,7 @@ noughts (b ∷ s) = cond (eqb b 48) (suc (noughts s)) 0
 
 -- ---- a step of the code
 
--- a whole part and decimals that are both digits
-unfoldable pub partsRead : List ℕ → List ℕ → AmountRead
-partsRead w f = cond (allIn Digit w && allIn Digit f) (Good (meaningOf w f)) Wrong
+-- the number of a whole part, and decimals that are digits
+unfoldable pub partsRead : ℕ → List ℕ → AmountRead
+partsRead n f =
+    cond (allIn Digit f) (Good (record { number = n * 10 ^ length (shortened f) + numeral (shortened f); decimals = length (shortened f) })) Wrong

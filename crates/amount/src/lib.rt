@@ -3,9 +3,8 @@
 //
 // What is right stands in specs/Amounts.
 use digits::Number;
-use text::Class;
 ghost use mathlib.Core.Path.{_≡_};
-ghost use Prim.Native.Nat.{_+_, _≤_};
+ghost use Prim.Native.Nat.{_-_, _^_, _≤_, _<_};
 ghost use lib.ListN.{length};
 ghost use Rattle.text.specs.Copy.{placed, after};
 ghost use Rattle.amount.specs.Amounts.{shortened, noughts, partsRead, amountRead, amountNumber, inForm, spread, amountText, nought, most};
@@ -61,23 +60,18 @@ pub fn leading(part: &[u8]) -> usize
     i
 }
 
-// The amount that a whole part and decimals mean, where they are digits.
-fn from_parts(whole: &[u8], rest: &[u8]) -> AmountRead
-    requires { ⌜ length (now whole) + length (now rest) ≤ 14 ⌝ }
-    ensures { λ r. ⌜ r ≡ partsRead (now (whole .entry)) (now (rest .entry)) ⌝ }
+// The amount that the number of a whole part and decimals mean, where these are digits. The noughts at their end are digits, so
+// that only what is left of them has to be looked at.
+fn from_parts(whole: u64, rest: &[u8]) -> AmountRead
+    requires { ⌜ (length (now rest) ≤ 13) × (whole < 10 ^ (14 - length (now rest))) ⌝ }
+    ensures { λ r. ⌜ r ≡ partsRead whole (now (rest .entry)) ⌝ }
 {
-    if !text::all_in(Class::Digit, rest) {
-        return AmountRead::Wrong;
-    }
-    let Number::Is(number) = digits::read_digits(whole) else {
-        return AmountRead::Wrong;
-    };
     let decimals = lasting(rest);
     let Number::Is(tail) = digits::read_digits(&rest[..decimals]) else {
         return AmountRead::Wrong;
     };
     AmountRead::Good(Amount {
-        number: number * digits::ten_to(decimals) + tail,
+        number: whole * digits::ten_to(decimals) + tail,
         decimals,
     })
 }
@@ -113,14 +107,18 @@ impl Amount {
         if 15 < part.len() {
             return AmountRead::Wrong;
         }
-        let cut = text::find(part, b',');
+        let run = digits::front(part);
+        let cut = run.len;
         if cut == part.len() {
+            return AmountRead::Wrong;
+        }
+        if part[cut] != b',' {
             return AmountRead::Wrong;
         }
         if cut == 0 {
             return AmountRead::Wrong;
         }
-        from_parts(&part[..cut], &part[cut + 1..])
+        from_parts(run.number, &part[cut + 1..])
     }
 
     // An amount of a record is in its shortest form, and has a text.

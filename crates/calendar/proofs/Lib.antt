@@ -1,3 +1,4 @@
 pub mod Laws
 pub mod Months
+pub mod Parts
 pub mod Cases

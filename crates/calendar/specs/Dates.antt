@@ -4,8 +4,8 @@ use Prim.Native.Nat.{ℕ, _+_, _*_, _/_, _%_}
 use mathlib.Core.Bool.{Bool, _&&_, _||_, not, cond}
 use mathlib.Core.List.{List, [], _∷_}
 use lib.Dec.{leb, ltb, eqb}
-use lib.ListN.{getD}
-use Rattle.digits.specs.Numerals.{digits, wideNumber}
+use lib.ListN.{getD, take, drop}
+use Rattle.digits.specs.Numerals.{numeral, digits, wideNumber}
 use Rattle.digits.specs.declared.Number.{Number}
 use Rattle.digits.specs.declared.Number.the-variants.{Is, Not}
 use Rattle.calendar.specs.declared.Date.{Date}
@@ -35,10 +35,12 @@ lengths = 0 ∷ 31 ∷ 28 ∷ 31 ∷ 30 ∷ 31 ∷ 30 ∷ 31 ∷ 31 ∷ 30 ∷ 3
 unfoldable pub monthLength : ℕ → ℕ → ℕ
 monthLength y m = cond (eqb m 2 && leap y) 29 (getD lengths m 0)
 
+-- a year, a month and a day that the month has
+abbrev pub isDay : ℕ → ℕ → ℕ → Bool
+isDay y m d = leb 1 y && (leb y 9999 && (leb 1 m && (leb m 12 && (leb 1 d && leb d (monthLength y m)))))
+
 unfoldable pub isDate : ℕ → Bool
-isDate n =
-    leb 1 (year n) && (leb (year n) 9999
-    && (leb 1 (month n) && (leb (month n) 12 && (leb 1 (day n) && leb (day n) (monthLength (year n) (month n))))))
+isDate n = isDay (year n) (month n) (day n)
 
 -- a time of day is the number that its six digits spell, HHMMSS
 unfoldable pub isTime : ℕ → Bool
@@ -91,3 +93,13 @@ dateText d = cond (isDate (d .0)) (digits 8 (d .0)) []
 
 unfoldable pub momentText : Moment → List ℕ
 momentText m = cond (isMoment m) (digits 14 (m .date .0 * 1000000 + m .time .0)) []
+
+-- ---- a step of the code
+
+-- the number of two digits at a place
+abbrev pub two : List ℕ → ℕ → ℕ
+two s at = numeral (take 2 (drop at s))
+
+-- a number that is a time of day
+unfoldable pub timeFrom : ℕ → Number
+timeFrom n = cond (isTime n) (Is n) Not

@@ -3,8 +3,12 @@
 // What is right stands in specs/Dates.
 use digits::Number;
 ghost use mathlib.Core.Path.{_≡_};
+ghost use Prim.Native.Nat.{_+_, _<_, _≤_};
+ghost use mathlib.Core.Bool.{true};
+ghost use lib.ListN.{length, take, drop};
+ghost use Rattle.digits.specs.Numerals.{numeral, digitsAlone};
 ghost use Rattle.text.specs.Copy.{placed, after};
-ghost use Rattle.calendar.specs.Dates.{leap, monthLength, isDate, isTime, isMoment, earlier, dateRead, dateNumber, momentRead, momentNumber, dateText, momentText};
+ghost use Rattle.calendar.specs.Dates.{leap, monthLength, isDay, isDate, isTime, isMoment, earlier, two, dateFrom, timeFrom, dateRead, dateNumber, momentRead, momentNumber, dateText, momentText};
 
 // A date as the number YYYYMMDD that its digits spell.
 pub struct Date(pub u64);
@@ -51,9 +55,6 @@ impl MomentRead {
     }
 }
 
-// The days of each month of a common year, January at 1.
-const LENGTHS: [u64; 13] = [0, 31, 28, 31, 30, 31, 30, 31, 31, 30, 31, 30, 31];
-
 pub fn is_leap(year: u64) -> bool
     ensures { λ r. ⌜ r ≡ leap year ⌝ }
 {
@@ -73,12 +74,83 @@ pub fn month_length(year: u64, month: usize) -> u64
     if 12 < month {
         return 0;
     }
-    if month == 2 {
-        if is_leap(year) {
-            return 29;
-        }
+    match month {
+        0 => 0,
+        2 => { if is_leap(year) { 29 } else { 28 } }
+        4 | 6 | 9 | 11 => 30,
+        _ => 31,
     }
-    LENGTHS[month]
+}
+
+// A year, a month and a day name a day of the calendar.
+fn is_day(year: u64, month: usize, day: u64) -> bool
+    ensures { λ r. ⌜ r ≡ isDay year month day ⌝ }
+{
+    if year < 1 {
+        return false;
+    }
+    if 9999 < year {
+        return false;
+    }
+    if month < 1 {
+        return false;
+    }
+    if 12 < month {
+        return false;
+    }
+    if day < 1 {
+        return false;
+    }
+    day <= month_length(year, month)
+}
+
+fn wide(byte: u8) -> u64
+    ensures { λ r. ⌜ r ≡ byte ⌝ }
+{
+    byte as u64
+}
+
+// The number of two digits at a place.
+fn pair(part: &[u8], at: usize) -> u64
+    requires { ⌜ (at + 2 ≤ length (now part)) × (digitsAlone (now part) ≡ true) ⌝ }
+    ensures { λ r. ⌜ (r ≡ two (now (part .entry)) at) × (r < 100) ⌝ }
+{
+    wide(part[at]) * 10 + wide(part[at + 1]) - 528
+}
+
+// The date of the first eight digits of a part. Year, month and day are read apart, so that nothing is divided for them.
+fn date_in(part: &[u8]) -> DateRead
+    requires { ⌜ (8 ≤ length (now part)) × (digitsAlone (now part) ≡ true) ⌝ }
+    ensures { λ r. ⌜ r ≡ dateFrom (Number.Is (numeral (take 8 (now (part .entry))))) ⌝ }
+{
+    let year = pair(part, 0) * 100 + pair(part, 2);
+    let month = pair(part, 4);
+    let day = pair(part, 6);
+    if is_day(year, month as usize, day) {
+        DateRead::Good(Date(year * 10000 + month * 100 + day))
+    } else {
+        DateRead::Wrong
+    }
+}
+
+// The time of day of the six digits behind those of a date.
+fn time_in(part: &[u8]) -> Number
+    requires { ⌜ (14 ≤ length (now part)) × (digitsAlone (now part) ≡ true) ⌝ }
+    ensures { λ r. ⌜ r ≡ timeFrom (numeral (take 6 (drop 8 (now (part .entry))))) ⌝ }
+{
+    let hour = pair(part, 8);
+    let minute = pair(part, 10);
+    let second = pair(part, 12);
+    if 23 < hour {
+        return Number::Not;
+    }
+    if 59 < minute {
+        return Number::Not;
+    }
+    if 59 < second {
+        return Number::Not;
+    }
+    Number::Is(hour * 10000 + minute * 100 + second)
 }
 
 impl Date {
@@ -86,37 +158,18 @@ impl Date {
     pub fn in_form(self) -> bool
         ensures { λ r. ⌜ r ≡ isDate (self .0) ⌝ }
     {
-        let year = self.0 / 10000;
-        let month = (self.0 / 100 % 100) as usize;
-        let day = self.0 % 100;
-        if year < 1 {
-            return false;
-        }
-        if 9999 < year {
-            return false;
-        }
-        if month < 1 {
-            return false;
-        }
-        if 12 < month {
-            return false;
-        }
-        if day < 1 {
-            return false;
-        }
-        day <= month_length(year, month)
+        is_day(self.0 / 10000, (self.0 / 100 % 100) as usize, self.0 % 100)
     }
 
     // The eight digits of a part as a date.
     pub fn read(part: &[u8]) -> DateRead
         ensures { λ r. ⌜ r ≡ dateRead (now (part .entry)) ⌝ }
     {
-        let Number::Is(n) = digits::read_fixed(part, 8) else {
+        if part.len() != 8 {
             return DateRead::Wrong;
-        };
-        let date = Date(n);
-        if date.in_form() {
-            DateRead::Good(date)
+        }
+        if digits::all_digits(part) {
+            date_in(part)
         } else {
             DateRead::Wrong
         }
@@ -169,22 +222,30 @@ impl Moment {
         }
     }
 
-    // The fourteen digits of a part as a date and time.
+    // The fourteen digits of a part as a date and time. Eight bytes are looked at at once, and so two of them twice: that is
+    // less work than eight and six.
     pub fn read(part: &[u8]) -> MomentRead
         ensures { λ r. ⌜ r ≡ momentRead (now (part .entry)) ⌝ }
     {
-        let Number::Is(n) = digits::read_fixed(part, 14) else {
+        if part.len() != 14 {
+            return MomentRead::Wrong;
+        }
+        if !digits::all_digits(&part[..8]) {
+            return MomentRead::Wrong;
+        }
+        if !digits::all_digits(&part[6..]) {
+            return MomentRead::Wrong;
+        }
+        let DateRead::Good(date) = date_in(part) else {
             return MomentRead::Wrong;
         };
-        let moment = Moment {
-            date: Date(n / 1_000_000),
-            time: Time(n % 1_000_000),
+        let Number::Is(time) = time_in(part) else {
+            return MomentRead::Wrong;
         };
-        if moment.in_form() {
-            MomentRead::Good(moment)
-        } else {
-            MomentRead::Wrong
-        }
+        MomentRead::Good(Moment {
+            date,
+            time: Time(time),
+        })
     }
 
     // Puts the fourteen digits of a date and time, as `text::put` puts a part; what is none has no digits.

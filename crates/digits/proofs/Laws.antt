@@ -4,17 +4,17 @@ use Prim.Native.Nat.{ℕ, zero, suc, _+_, _-_, _*_, _/_, _%_, _^_, _≤_, _<_}
 use mathlib.Core.Path.{_≡_, refl, sym, ap, _∙_}
 use mathlib.Core.Bool.{Bool, true, false, _&&_, cond}
 use mathlib.Core.List.{List, [], _∷_, _++_, append-assoc, append-nil}
-use native.Mathlib.Nat.{add-zero, zero-add, add-suc, add-assoc, mul-assoc, mul-comm, mul-one, zero-mul, add-mul, pow-zero, pow-suc, pow-succ', mod-lt, div-add-mod', div-lt-iff-lt-mul}
+use native.Mathlib.Nat.{not-suc-le-zero, add-zero, zero-add, add-suc, add-assoc, mul-assoc, mul-comm, mul-one, zero-mul, add-mul, pow-zero, pow-suc, pow-succ', mod-lt, div-add-mod', div-lt-iff-lt-mul}
 use native.Mathlib.Numerals.{add-one, one-add}
 use native.Mathlib.Omega.{arith}
 use lib.Arith.{digits-lt, digits-div, digits-mod}
 use lib.Dec.{leb, eqb, lit<}
-use lib.ListN.{length, replicate, length-append, replicate-append-replicate}
+use lib.ListN.{length, getD, replicate, length-append, replicate-append-replicate}
 use borrow.Author.Tests.{leb-true, le-leb, eq-eqb, eqb-true}
 use Rattle.text.specs.Classes.{allIn, inClass, isDigit, isBetween}
 use Rattle.text.specs.declared.Class.the-variants.{Digit}
 use Rattle.text.proofs.Laws.{and-left, and-right, and-both, all-append}
-use Rattle.digits.specs.Numerals.{numeralFrom, numeral, digits, numberOf, wideNumber}
+use Rattle.digits.specs.Numerals.{numeralFrom, numeral, digits, digitRun, numberOf, wideNumber}
 use Rattle.digits.specs.declared.Number.the-variants.{Is, Not}
 
 -- ---- one digit
@@ -30,6 +30,12 @@ digit-high b e = leb-true b 57 (and-right (leb 48 b) _ e)
 pub is-digit : (b : ℕ) → 48 ≤ b → b ≤ 57 → inClass Digit b ≡ true
 unfolding inClass isDigit isBetween
 is-digit b h g = and-both (le-leb 48 b h) (le-leb b 57 g)
+
+-- ---- powers of ten
+
+pub pow-add : (a b : ℕ) → 10 ^ (a + b) ≡ 10 ^ a * 10 ^ b
+pow-add a zero = rw (add-zero, pow-zero, mul-one)
+pow-add a (suc b) = rw (add-suc, pow-suc, pow-suc, pow-add a b) (mul-assoc (10 ^ a) (10 ^ b) 10)
 
 -- ---- the number that digits spell
 
@@ -130,6 +136,57 @@ digits-more width s e h =
     let n : numeral s ≡ 0 * 10 ^ length s + numeral s = rw (zero-mul, zero-add) in
     ap (λ (x : ℕ). digits x (numeral s)) w ∙ ap (digits (k + length s)) n ∙ digits-join k (length s) 0 (numeral s) (numeral-lt s e)
     ∙ rw (zero-digits k, digits-numeral s e)
+
+-- ---- the digits that a part begins with
+
+pub run-length : (s : List ℕ) → length (digitRun s) ≤ length s
+unfolding digitRun
+run-length [] = omega arith
+run-length (b ∷ s) = go (run-length s) (inClass Digit b)
+  where
+    go : length (digitRun s) ≤ length s → (t : Bool) → length (cond t (b ∷ digitRun s) []) ≤ suc (length s)
+    go ih true = omega arith
+    go ih false = omega arith
+
+-- they are digits
+pub run-digits : (s : List ℕ) → allIn Digit (digitRun s) ≡ true
+unfolding digitRun allIn
+run-digits [] = refl
+run-digits (b ∷ s) = go (run-digits s) (inClass Digit b) refl
+  where
+    go : allIn Digit (digitRun s) ≡ true → (t : Bool) → inClass Digit b ≡ t → allIn Digit (cond t (b ∷ digitRun s) []) ≡ true
+    go ih true e = and-both e ih
+    go ih false e = refl
+
+-- what stands behind them is none
+pub run-next : (s : List ℕ) → length (digitRun s) < length s → inClass Digit (getD s (length (digitRun s)) 0) ≡ false
+unfolding digitRun
+run-next [] h = absurd (not-suc-le-zero h)
+run-next (b ∷ s) h = go (run-next s) (inClass Digit b) refl h
+  where
+    go : (length (digitRun s) < length s → inClass Digit (getD s (length (digitRun s)) 0) ≡ false) → (t : Bool) → inClass Digit b ≡ t
+        → length (cond t (b ∷ digitRun s) []) < suc (length s) → inClass Digit (getD (b ∷ s) (length (cond t (b ∷ digitRun s) [])) 0) ≡ false
+    go ih true e g = ih (omega arith)
+    go ih false e g = e
+
+-- digits alone are all in front
+pub all-run : (s : List ℕ) → allIn Digit s ≡ true → digitRun s ≡ s
+unfolding digitRun allIn
+all-run [] e = refl
+all-run (b ∷ s) e = rw (and-left (inClass Digit b) _ e) (ap (λ (l : List ℕ). b ∷ l) (all-run s (and-right (inClass Digit b) _ e)))
+
+-- and where as many are in front as there are bytes, there is nothing else
+pub run-is : (s : List ℕ) → length (digitRun s) ≡ length s → digitRun s ≡ s
+unfolding digitRun
+run-is [] e = refl
+run-is (b ∷ s) e = go (inClass Digit b) (run-is s) e
+  where
+    go : (t : Bool) → (length (digitRun s) ≡ length s → digitRun s ≡ s) → length (cond t (b ∷ digitRun s) []) ≡ suc (length s) → cond t (b ∷ digitRun s) [] ≡ b ∷ s
+    go true ih h = ap (λ (l : List ℕ). b ∷ l) (ih (omega arith))
+    go false ih h = let z : ⊥ = omega arith in absurd z
+
+pub run-all : (s : List ℕ) → length (digitRun s) ≡ length s → allIn Digit s ≡ true
+run-all s e = sym (ap (allIn Digit) (run-is s e)) ∙ run-digits s
 
 -- ---- a part of a fixed width, both ways: what dates and times rest on
 

@@ -1,61 +1,82 @@
--- The mathematics of the crate's functions, over plain lists and numbers: the table of powers, what each turn of reading
--- digits says of the whole part, and what each turn of putting them leaves in the buffer.
+-- The mathematics of the crate's functions, over plain lists and numbers: powers of ten, what each turn of looking at
+-- digits or reading them says of the whole part, and what each turn of putting them leaves in the buffer.
 -- Assumes nothing.
 use Prim.Native.Nat.{ℕ, zero, suc, _+_, _-_, _*_, _/_, _%_, _^_, _≤_, _<_}
 use mathlib.Core.Path.{_≡_, refl, sym, ap, _∙_}
-use mathlib.Core.Bool.{true, false, and-false}
+use mathlib.Core.Bool.{Bool, true, false, _&&_, cond, and-assoc, and-true}
 use mathlib.Core.List.{List, [], _∷_}
-use native.Mathlib.Nat.{not-suc-le-zero, le-of-suc-le-suc, add-suc, suc-add, zero-add, add-zero, pow-suc, pow-le-pow-right, lt-of-lt-of-le}
+use native.Mathlib.Nat.{not-suc-le-zero, zero-add, pow-suc, pow-le-pow-right, lt-of-lt-of-le}
 use native.Mathlib.Numerals.{add-one}
 use native.Mathlib.Omega.{arith}
 use lib.Arith.{digits-lt}
 use lib.Dec.{leb, lit<}
 use lib.ListN.{length, drop, getD, set, drop-of-length-le}
 use lib.Seq.{drop-cons}
-use borrow.Author.Tests.{le-leb, lt-leb, lt-ltb, le-ltb}
+use borrow.Author.Tests.{le-leb, lt-leb, lt-ltb, le-ltb, leb-false}
 use Rattle.text.specs.Classes.{allIn, inClass}
 use Rattle.text.specs.Copy.{over, fits, placed, after}
 use Rattle.text.specs.declared.Class.the-variants.{Digit}
 use Rattle.text.proofs.Laws.{over-nil, over-set}
-use Rattle.digits.specs.Numerals.{numeralFrom, numeral, digits, numberOf, tenTo}
+use Rattle.digits.specs.Numerals.{numeralFrom, numeral, digits, digitRun, shortRun, runOf, numberOf, tenTo}
+use Rattle.digits.specs.declared.Run.{Run}
 use Rattle.digits.specs.declared.Number.the-variants.{Is, Not}
-use Rattle.digits.proofs.Laws.{digit-low, digit-high, length-digits}
+use Rattle.digits.proofs.Laws.{digit-low, digit-high, length-digits, run-is, run-all, all-run}
 
--- ---- the table of powers
+-- ---- powers of ten
 
-abbrev pub powers : ℕ → ℕ → List ℕ
-powers i zero = []
-powers i (suc n) = 10 ^ i ∷ powers (suc i) n
-
-power-at : (i n d : ℕ) → d < n → getD (powers i n) d 0 ≡ 10 ^ (i + d)
-power-at i zero d h = absurd (not-suc-le-zero h)
-power-at i (suc n) zero h = rw add-zero
-power-at i (suc n) (suc d) h = power-at (suc i) n d (le-of-suc-le-suc h) ∙ rw (add-suc, suc-add)
-
-pub ten-in : (d : ℕ) → d < 15 → getD (powers 0 15) d 0 ≡ tenTo d
-unfolding tenTo
-ten-in d h = power-at 0 15 d h ∙ rw (zero-add, lt-ltb d 15 h)
-
-pub ten-out : (d : ℕ) → 15 ≤ d → 0 ≡ tenTo d
+pub ten-out : (d : ℕ) → 14 < d → 0 ≡ tenTo d
 unfolding tenTo
 ten-out d h = rw (le-ltb d 15 h)
 
+pub ten-more : (n i : ℕ) → n ≡ 10 ^ i → n * 10 ≡ 10 ^ (i + 1)
+ten-more n i e = rw (add-one, pow-suc, e)
+
+pub ten-small : (n i : ℕ) → n ≡ 10 ^ i → i ≤ 14 → n ≤ 10 ^ 14
+ten-small n i e h = rw e (pow-le-pow-right (lit< tt) h)
+
+pub ten-in : (d n i : ℕ) → d ≤ 14 → i ≡ d → n ≡ 10 ^ i → n ≡ tenTo d
+unfolding tenTo
+ten-in d n i h w e = rw (lt-ltb d 15 (omega arith), e, w)
+
+-- ---- looking at every byte
+
+module _ (s : List ℕ) (g : Bool) (i : ℕ) (inv : (g && allIn Digit (drop i s)) ≡ allIn Digit s) where
+  pub looked : i < length s → (g && inClass Digit (getD s i 0) && allIn Digit (drop (i + 1) s)) ≡ allIn Digit s
+  unfolding allIn
+  looked h = and-assoc g (inClass Digit (getD s i 0)) (allIn Digit (drop (i + 1) s)) ∙ sym (sym inv ∙ rw (add-one, drop-cons s i 0 h))
+
+  pub looked-all : length s ≤ i → g ≡ allIn Digit s
+  unfolding allIn
+  looked-all h = sym (sym inv ∙ rw (drop-of-length-le s h, and-true g))
+
 -- ---- reading digits
 
--- what is read and what is still ahead: the number and the test of the whole part are those of the rest
+-- what is read and what is still ahead: the number and the count of the digits in front are those of what was read and the rest
 pub record Ahead (s : List ℕ) (n i : ℕ) : Type 0 where
   pub within : i ≤ length s
   pub small : n < 10 ^ i
-  pub spells : numeralFrom n (drop i s) ≡ numeral s
-  pub tests : allIn Digit (drop i s) ≡ allIn Digit s
+  pub spells : numeralFrom n (digitRun (drop i s)) ≡ numeral (digitRun s)
+  pub counts : i + length (digitRun (drop i s)) ≡ length (digitRun s)
 
 pub ahead-all : (s : List ℕ) → Ahead s 0 0
 unfolding numeral
-ahead-all s = record { within = omega arith; small = lit< tt; spells = refl; tests = refl }
+ahead-all s = record { within = omega arith; small = lit< tt; spells = refl; counts = zero-add _ }
 
-pub too-long : (s : List ℕ) → 18 < length s → Not ≡ numberOf s
-unfolding numberOf
-too-long s h = rw (lt-leb (length s) 18 h)
+-- the number and the count that are promised of a part
+abbrev pub Ran : List ℕ → ℕ → ℕ → Type 0
+Ran s n i = (n ≡ numeral (shortRun s)) × (i ≡ length (shortRun s))
+
+pub ran-is : (s : List ℕ) (n i : ℕ) → Ran s n i → record { number = n; len = i } ≡ runOf s
+unfolding runOf
+ran-is s n i r = rw (r .0, r .1)
+
+pub ran-of : (s : List ℕ) (r : Run) → r ≡ runOf s → Ran s (r .number) (r .len)
+unfolding runOf
+ran-of s r e = (ap (λ (x : Run). x .number) e, ap (λ (x : Run). x .len) e)
+
+pub too-long : (s : List ℕ) → 18 < length s → Ran s 0 0
+unfolding shortRun numeral numeralFrom
+too-long s h = (rw (lt-leb (length s) 18 h), rw (lt-leb (length s) 18 h))
 
 module _ (s : List ℕ) (n i : ℕ) (a : Ahead s n i) (short : length s ≤ 18) where
   pub small-enough : n < 10 ^ 18
@@ -64,36 +85,65 @@ module _ (s : List ℕ) (n i : ℕ) (a : Ahead s n i) (short : length s ≤ 18) 
       let k : i ≤ 18 = omega arith in
       lt-of-lt-of-le (a .small) (pow-le-pow-right (lit< tt) k)
 
+  -- no digit stands ahead
+  ended : digitRun (drop i s) ≡ [] → Ran s n i
+  unfolding shortRun numeralFrom
+  ended e =
+      let k : i + 0 ≡ length (digitRun s) = rw e at (a .counts) in
+      (rw (le-leb (length s) 18 short) (sym (ap (numeralFrom n) e) ∙ a .spells), rw (le-leb (length s) 18 short) (omega arith))
+
   module _ (more : i < length s) where
     next-is : drop i s ≡ getD s i 0 ∷ drop (i + 1) s
     next-is = rw add-one (drop-cons s i 0 more)
 
-    pub stop : inClass Digit (getD s i 0) ≡ false → Not ≡ numberOf s
-    unfolding numberOf allIn
-    stop e =
-        let t : allIn Digit s ≡ false = sym (a .tests) ∙ rw (next-is, e) in
-        rw (t, and-false (leb (length s) 18))
+    pub stop : inClass Digit (getD s i 0) ≡ false → Ran s n i
+    unfolding digitRun
+    stop e = ended (rw (next-is, e))
 
     pub again : inClass Digit (getD s i 0) ≡ true → Ahead s (n * 10 + (getD s i 0 - 48)) (i + 1)
-    unfolding numeralFrom allIn
+    unfolding numeralFrom digitRun
     again e =
         let low = digit-low _ e in
         let high = digit-high _ e in
         let v : getD s i 0 - 48 < 10 = omega arith in
+        let run : digitRun (drop i s) ≡ getD s i 0 ∷ digitRun (drop (i + 1) s) = rw (next-is, e) in
         record {
           within = omega arith;
           small = rw (add-one, pow-suc) (digits-lt (a .small) v);
-          spells = sym (sym (a .spells) ∙ rw next-is);
-          tests = sym (sym (a .tests) ∙ rw (next-is, e));
+          spells = sym (ap (numeralFrom n) run) ∙ a .spells;
+          counts = let k = sym (ap length run) in let c = a .counts in omega arith;
         }
 
-  pub done : length s ≤ i → Is n ≡ numberOf s
-  unfolding numberOf numeralFrom allIn
-  done h =
-      let nil = drop-of-length-le s h in
-      let m : n ≡ numeral s = sym (ap (numeralFrom n) nil) ∙ a .spells in
-      let t : true ≡ allIn Digit s = sym (ap (allIn Digit) nil) ∙ a .tests in
-      rw (le-leb (length s) 18 short, ← t, m)
+  pub done : length s ≤ i → Ran s n i
+  unfolding digitRun
+  done h = ended (rw (drop-of-length-le s h))
+
+-- a part is a number where the digits in front are all of it
+module _ (s : List ℕ) (n k : ℕ) (ran : Ran s n k) where
+  pub whole-run : k ≡ length s → Is n ≡ numberOf s
+  unfolding numberOf shortRun
+  whole-run e = go (leb (length s) 18) refl
+    where
+      go : (b : Bool) → leb (length s) 18 ≡ b → Is n ≡ cond (b && allIn Digit s) (Is (numeral s)) Not
+      go true t =
+          let l : length (digitRun s) ≡ length s = sym (rw t at (ran .1)) ∙ e in
+          let m : n ≡ numeral (digitRun s) = rw t at (ran .0) in
+          rw (m, run-is s l, run-all s l)
+      go false t =
+          let z : k ≡ 0 = rw t at (ran .1) in
+          let l : 18 < length s = leb-false _ _ t in
+          absurd (omega arith)
+
+  pub part-run : (k ≡ length s → ⊥) → Not ≡ numberOf s
+  unfolding numberOf shortRun
+  part-run e = go (leb (length s) 18) (allIn Digit s) refl refl
+    where
+      go : (b c : Bool) → leb (length s) 18 ≡ b → allIn Digit s ≡ c → Not ≡ cond (b && c) (Is (numeral s)) Not
+      go true true t d =
+          let l : k ≡ length (digitRun s) = rw t at (ran .1) in
+          absurd (e (l ∙ ap length (all-run s d)))
+      go true false t d = refl
+      go false c t d = refl
 
 -- ---- putting digits
 

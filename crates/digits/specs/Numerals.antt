@@ -1,11 +1,12 @@
 -- Digits and the whole number that they spell, both ways; dates, times and amounts are made of them.
 use Prim.Native.Nat.{ℕ, zero, suc, _+_, _-_, _*_, _/_, _%_, _^_}
-use mathlib.Core.Bool.{_&&_, cond}
+use mathlib.Core.Bool.{Bool, _&&_, cond}
 use mathlib.Core.List.{List, [], _∷_, _++_}
 use lib.Dec.{leb, ltb, eqb}
 use lib.ListN.{length}
-use Rattle.text.specs.Classes.{allIn}
+use Rattle.text.specs.Classes.{allIn, inClass}
 use Rattle.text.specs.declared.Class.the-variants.{Digit}
+use Rattle.digits.specs.declared.Run.{Run}
 use Rattle.digits.specs.declared.Number.{Number}
 use Rattle.digits.specs.declared.Number.the-variants.{Is, Not}
 
@@ -22,6 +23,22 @@ numeral s = numeralFrom 0 s
 unfoldable pub digits : ℕ → ℕ → List ℕ
 digits zero n = []
 digits (suc width) n = digits width (n / 10) ++ ((48 + n % 10) ∷ [])
+
+-- digits and nothing else
+abbrev pub digitsAlone : List ℕ → Bool
+digitsAlone s = allIn Digit s
+
+-- the digits that a part begins with
+unfoldable pub digitRun : List ℕ → List ℕ
+digitRun [] = []
+digitRun (b ∷ s) = cond (inClass Digit b) (b ∷ digitRun s) []
+
+-- the same of a part of at most eighteen bytes, so that every number fits its place; of a longer one none
+unfoldable pub shortRun : List ℕ → List ℕ
+shortRun s = cond (leb (length s) 18) (digitRun s) []
+
+unfoldable pub runOf : List ℕ → Run
+runOf s = record { number = numeral (shortRun s); len = length (shortRun s) }
 
 -- a part as a number: digits alone, at most eighteen of them, so that every number fits its place
 unfoldable pub numberOf : List ℕ → Number

@@ -1,4 +1,4 @@
-// Digits and numbers: reading a part that is all digits, and putting a number's digits into a lent buffer.
+// Digits and numbers: reading the digits of a part, and putting a number's digits into a lent buffer.
 //
 // What is right stands in specs/Numerals.
 use text::Class;
@@ -7,7 +7,7 @@ ghost use Prim.Native.Nat.{_-_};
 ghost use mathlib.Core.Bool.{true};
 ghost use Rattle.text.specs.Classes.{isDigit};
 ghost use Rattle.text.specs.Copy.{placed, after};
-ghost use Rattle.digits.specs.Numerals.{digits, numberOf, wideNumber, tenTo};
+ghost use Rattle.digits.specs.Numerals.{digits, digitsAlone, runOf, numberOf, tenTo};
 
 // A part of a message as a number.
 pub enum Number {
@@ -15,64 +15,75 @@ pub enum Number {
     Not,
 }
 
-// Powers of ten, from none to fourteen places.
-const TENS: [u64; 15] = [
-    1,
-    10,
-    100,
-    1_000,
-    10_000,
-    100_000,
-    1_000_000,
-    10_000_000,
-    100_000_000,
-    1_000_000_000,
-    10_000_000_000,
-    100_000_000_000,
-    1_000_000_000_000,
-    10_000_000_000_000,
-    100_000_000_000_000,
-];
+// The digits that a part begins with: the number that they spell, and how many they are.
+pub struct Run {
+    pub number: u64,
+    pub len: usize,
+}
 
+// The power of ten that moves a comma by a number of places: few are the rule, so that multiplying is less work than a table.
 pub fn ten_to(places: usize) -> u64
     ensures { λ r. ⌜ r ≡ tenTo places ⌝ }
 {
-    if places < 15 { TENS[places] } else { 0 }
+    if 14 < places {
+        return 0;
+    }
+    let mut n: u64 = 1;
+    let mut i = 0;
+    while i < places {
+        n = n * 10;
+        i += 1;
+    }
+    n
 }
 
 fn value(digit: u8) -> u64
     requires { ⌜ isDigit digit ≡ true ⌝ }
     ensures { λ r. ⌜ r ≡ digit - 48 ⌝ }
 {
-    (digit - 48) as u64
+    digit as u64 - 48
+}
+
+// Every byte is a digit. Each is looked at, also behind one that is none, so that the machine can look at many at once.
+pub fn all_digits(part: &[u8]) -> bool
+    ensures { λ r. ⌜ r ≡ digitsAlone (now (part .entry)) ⌝ }
+{
+    let mut good = true;
+    let mut i = 0;
+    while i < part.len() {
+        good = good & text::in_class(Class::Digit, part[i]);
+        i += 1;
+    }
+    good
+}
+
+// The digits that a part of at most eighteen bytes begins with; of a longer part none.
+pub fn front(part: &[u8]) -> Run
+    ensures { λ r. ⌜ r ≡ runOf (now (part .entry)) ⌝ }
+{
+    let mut n: u64 = 0;
+    let mut i = 0;
+    if 18 < part.len() {
+        return Run { number: n, len: i };
+    }
+    while i < part.len() {
+        let b = part[i];
+        if !text::in_class(Class::Digit, b) {
+            return Run { number: n, len: i };
+        }
+        n = n * 10 + value(b);
+        i += 1;
+    }
+    Run { number: n, len: i }
 }
 
 // The number that a part of at most eighteen digits spells; no digits spell 0.
 pub fn read_digits(part: &[u8]) -> Number
     ensures { λ r. ⌜ r ≡ numberOf (now (part .entry)) ⌝ }
 {
-    if 18 < part.len() {
-        return Number::Not;
-    }
-    let mut n: u64 = 0;
-    let mut i = 0;
-    while i < part.len() {
-        let b = part[i];
-        if !text::in_class(Class::Digit, b) {
-            return Number::Not;
-        }
-        n = n * 10 + value(b);
-        i += 1;
-    }
-    Number::Is(n)
-}
-
-// The number that a part of exactly `width` digits spells.
-pub fn read_fixed(part: &[u8], width: usize) -> Number
-    ensures { λ r. ⌜ r ≡ wideNumber width (now (part .entry)) ⌝ }
-{
-    if part.len() == width {
-        read_digits(part)
+    let run = front(part);
+    if run.len == part.len() {
+        Number::Is(run.number)
     } else {
         Number::Not
     }

@@ -7,10 +7,9 @@ use layout::Place;
 use layout::Step;
 use measure::Width;
 ghost use mathlib.Core.Path.{_≡_};
-ghost use mathlib.Core.Bool.{false, cond};
-ghost use Prim.Native.Nat.{_+_, _≤_, _<_, _^_};
-ghost use lib.Dec.{eqb};
-ghost use lib.ListN.{length, set};
+ghost use mathlib.Core.Bool.{false};
+ghost use Prim.Native.Nat.{_≤_};
+ghost use lib.ListN.{length};
 ghost use Rattle.layout.specs.Rows.{rowsOf};
 ghost use Rattle.forms.specs.Slots.{slotAt};
 ghost use Rattle.glance.specs.Glance.{Says};
@@ -125,41 +124,7 @@ fn see(text: &[u8], rows: &[u8], slots: &[u8], here: Place, seen: &[u8]) -> Take
     }
 }
 
-// Keeps where the value of a slot begins, behind its fixed text, and where it ends.
-fn keep(
-    slots: &[u8],
-    starts: &mut [usize],
-    ends: &mut [usize],
-    slot: usize,
-    value: usize,
-    end: usize,
-)
-    requires { ⌜ value + 16 < 2 ^ 64 ⌝ }
-    ensures { λ _. ⌜ (now (starts .exit) ≡ set (now (starts .entry)) slot (value + length (slotAt (now (slots .entry)) slot .fixed))) × (now (ends .exit) ≡ set (now (ends .entry)) slot end) ⌝ }
-{
-    stretches::keep(starts, slot, value + forms::fixed_text(slots, slot).len());
-    stretches::keep(ends, slot, end);
-}
-
-// The same of a line behind the header; slot 0, of lines without a value, has none.
-fn keep_value(
-    slots: &[u8],
-    starts: &mut [usize],
-    ends: &mut [usize],
-    slot: usize,
-    value: usize,
-    end: usize,
-)
-    requires { ⌜ value + 16 < 2 ^ 64 ⌝ }
-    ensures { λ _. ⌜ (now (starts .exit) ≡ cond (eqb slot 0) (now (starts .entry)) (set (now (starts .entry)) slot (value + length (slotAt (now (slots .entry)) slot .fixed)))) × (now (ends .exit) ≡ cond (eqb slot 0) (now (ends .entry)) (set (now (ends .entry)) slot end)) ⌝ }
-{
-    if slot == 0 {
-        return;
-    }
-    keep(slots, starts, ends, slot, value, end);
-}
-
-// The lines of the header, one after the other.
+// The lines of the header, one after the other. Slot 0 is no line's.
 fn take_header(
     text: &[u8],
     header: &[u8],
@@ -173,10 +138,13 @@ fn take_header(
     let mut i = 0;
     while i < header.len() {
         let slot = header[i];
+        if slot == 0 {
+            return Width::Not;
+        }
         let Head::At(end, next) = head_line(&text[at..], slots, slot) else {
             return Width::Not;
         };
-        keep(slots, starts, ends, slot as usize, at, at + end);
+        walk::keep(slots, starts, ends, slot as usize, at, at + end);
         at += next;
         i += 1;
     }
@@ -223,7 +191,7 @@ fn take_body(
         let slot = taken.step.slot;
         last = at;
         stop = at + taken.end;
-        keep_value(slots, starts, ends, slot, at + taken.value, stop);
+        walk::keep(slots, starts, ends, slot, at + taken.value, stop);
         layout::mark(&mut seen, slot);
         here = taken.step.place;
         at += taken.next;

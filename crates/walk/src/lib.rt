@@ -39,7 +39,7 @@ fn first_fault(slots: &[u8], fault: Verdict, slot: usize, value: &[u8], line: us
 }
 
 // Keeps where the value of a slot begins, behind its fixed text, and where it ends; slot 0 has none.
-fn keep(
+pub fn keep(
     slots: &[u8],
     starts: &mut [usize],
     ends: &mut [usize],

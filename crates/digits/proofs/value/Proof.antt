@@ -9,11 +9,8 @@ sub-result : tie.Need-sub-result
 unfolding inClass
 sub-result c = digit-low _ (c .pre)
 
-cast-result : tie.Need-cast-result
-cast-result c = search needs
-
 returns : tie.Need-returns
 returns c = search needs
 
 pub value-spec : {M : Type 1} → statement M
-value-spec = tie.close (tie.spec sub-result cast-result returns)
+value-spec = tie.close (tie.spec sub-result returns)

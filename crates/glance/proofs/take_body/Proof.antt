@@ -84,11 +84,11 @@ returns c = tt
 add-stop : tie.Need-add-stop Inv-loop μ-loop
 add-stop c = let w = ends-in (c .before) in omega (arith, w .0, w .1, start (c .before .before .before) .before .before .before .before .before .before .good .0 .1)
 
-add-keep-value : tie.Need-add-keep-value Inv-loop μ-loop
-add-keep-value c = let t = c .before .before .before .before in let w = ends-in t in omega (arith, w .0, w .1, w .2, start (t .before .before) .before .before .before .before .before .before .good .0 .1)
+add-keep : tie.Need-add-keep Inv-loop μ-loop
+add-keep c = let t = c .before .before .before .before in let w = ends-in t in omega (arith, w .0, w .1, w .2, start (t .before .before) .before .before .before .before .before .before .good .0 .1)
 
-keep-value-requires : tie.Need-keep-value-requires Inv-loop μ-loop
-keep-value-requires c κs = let t = c .before .before .before .before in let w = ends-in t in omega (arith, w .0, w .1, w .2, start (t .before .before) .before .before .before .before .before .before .good .0 .1)
+keep-requires : tie.Need-keep-requires Inv-loop μ-loop
+keep-requires c κs = let t = c .before .before .before .before in let w = ends-in t in omega (arith, w .0, w .1, w .2, start (t .before .before) .before .before .before .before .before .before .good .0 .1)
 
 slice-aggregate-mark : tie.Need-slice-aggregate-mark Inv-loop μ-loop
 slice-aggregate-mark c = sym (start (c .before .before .before .before .before .before .before .before .before .before .before .before) .loop .inv .seen-long)
@@ -107,7 +107,7 @@ loop-again c =
     let t = turn c in
     let m = c .before .before .before in
     let k = m .before .before .before .before .before .before in
-    body-again _ _ _ _ _ _ _ _ _ _ _ _ _ (start (t .before .before) .loop .inv) _ (is-told t) (looked (t .before .before)) _ _ _ (k .keep-value .ensures .0) (k .keep-value .ensures .1) (m .mark .ensures)
+    body-again _ _ _ _ _ _ _ _ _ _ _ _ _ (start (t .before .before) .loop .inv) _ (is-told t) (looked (t .before .before)) _ _ _ (k .keep .ensures .0) (k .keep .ensures .1) (m .mark .ensures)
 
 closed-requires : tie.Need-closed-requires Inv-loop μ-loop
 closed-requires c κs = search needs
@@ -137,8 +137,8 @@ take-body-spec =
     same-length-2
     returns
     add-stop
-    add-keep-value
-    keep-value-requires
+    add-keep
+    keep-requires
     slice-aggregate-mark
     mark-requires
     add-at

@@ -4,6 +4,7 @@ use Prim.Native.Nat.{_+_, _-_, _≤_, _<_}
 use mathlib.Core.Path.{refl}
 use lib.ListN.{length, drop, getD}
 use denote.Ref.{now}
+use borrow.Author.Tests.{ne-eqb}
 use Rattle.text.proofs.Laws.{rest-of}
 use native.Mathlib.Omega.{arith}
 use borrow.Author.Needs.{needs}
@@ -21,7 +22,7 @@ abbrev μ-loop : tie.MeasureT-loop
 μ-loop text header slots starts₀ ends₀ at₀ i₀ starts ends at i = length header - i
 
 abbrev start : tie.After-end Inv-loop μ-loop → tie.At-loop Inv-loop μ-loop
-start c = c .before .before .before .before .before .before
+start c = c .before .before .before .before .before .before .before
 
 -- a line that was told, from where it was looked for
 seen : (c : tie.After-end Inv-loop μ-loop)
@@ -47,6 +48,16 @@ loop-holds c = head-begin _ _ _ _ _
 shared-slice-read-slot : tie.Need-shared-slice-read-slot Inv-loop μ-loop
 shared-slice-read-slot c = search needs
 
+same-length : tie.Need-same-length Inv-loop μ-loop
+same-length c = search needs
+
+same-length-2 : tie.Need-same-length-2 Inv-loop μ-loop
+same-length-2 c = search needs
+
+returns : tie.Need-returns Inv-loop μ-loop
+unfolding HeadSays
+returns c = tt
+
 sub-head-line : tie.Need-sub-head-line Inv-loop μ-loop
 sub-head-line c = search needs
 
@@ -65,18 +76,18 @@ enum-known-end c = search needs
 enum-told : tie.Need-enum-told Inv-loop μ-loop
 enum-told c = search needs
 
-same-length : tie.Need-same-length Inv-loop μ-loop
-same-length c = search needs
+same-length-3 : tie.Need-same-length-3 Inv-loop μ-loop
+same-length-3 c = search needs
 
-same-length-2 : tie.Need-same-length-2 Inv-loop μ-loop
-same-length-2 c = search needs
+same-length-4 : tie.Need-same-length-4 Inv-loop μ-loop
+same-length-4 c = search needs
 
-returns : tie.Need-returns Inv-loop μ-loop
+returns-2 : tie.Need-returns-2 Inv-loop μ-loop
 unfolding HeadSays
-returns c = tt
+returns-2 c = tt
 
 cast-keep : tie.Need-cast-keep Inv-loop μ-loop
-cast-keep c = let e = c .before .before .before in omega (arith, e .before .before .before .before .shared-slice-known4 .given (start e .loop .i))
+cast-keep c = let e = c .before .before .before in omega (arith, e .before .before .before .before .before .shared-slice-known4 .given (start e .loop .i))
 
 add-keep : tie.Need-add-keep Inv-loop μ-loop
 add-keep c =
@@ -104,16 +115,17 @@ loop-again : tie.Need-loop-again Inv-loop μ-loop
 loop-again c =
     let e = turn c in
     let k = c .before .before .before .before in
-    head-again _ _ _ _ _ _ _ _ _ (start e .loop .inv) _ _ (seen e) (e .before .before .before .before .before .loop-test .taken) _ _ (k .keep .ensures .0) (k .keep .ensures .1)
+    let some = ne-eqb _ _ (e .before .before .before .before .if1 .left) in
+    head-again _ _ _ _ _ _ _ _ _ (start e .loop .inv) _ _ (seen e) (e .before .before .before .before .before .before .loop-test .taken) _ _ (rw some at (k .keep .ensures .0)) (rw some at (k .keep .ensures .1))
 
-same-length-3 : tie.Need-same-length-3 Inv-loop μ-loop
-same-length-3 c = search needs
+same-length-5 : tie.Need-same-length-5 Inv-loop μ-loop
+same-length-5 c = search needs
 
-same-length-4 : tie.Need-same-length-4 Inv-loop μ-loop
-same-length-4 c = search needs
+same-length-6 : tie.Need-same-length-6 Inv-loop μ-loop
+same-length-6 c = search needs
 
-returns-2 : tie.Need-returns-2 Inv-loop μ-loop
-returns-2 c = head-says _ _ _ _ _ _ _ _ _ (c .before .loop .inv) (c .loop-test .left)
+returns-3 : tie.Need-returns-3 Inv-loop μ-loop
+returns-3 c = head-says _ _ _ _ _ _ _ _ _ (c .before .loop .inv) (c .loop-test .left)
 
 pub take-header-spec : {M : Type 1} → statement M
 take-header-spec =
@@ -123,15 +135,18 @@ take-header-spec =
     μ-loop
     loop-holds
     shared-slice-read-slot
+    same-length
+    same-length-2
+    returns
     sub-head-line
     part-head-line-start
     part-head-line-end
     head-line-requires
     enum-known-end
     enum-told
-    same-length
-    same-length-2
-    returns
+    same-length-3
+    same-length-4
+    returns-2
     cast-keep
     add-keep
     keep-requires
@@ -139,6 +154,6 @@ take-header-spec =
     add-i
     loop-less
     loop-again
-    same-length-3
-    same-length-4
-    returns-2)
+    same-length-5
+    same-length-6
+    returns-3)

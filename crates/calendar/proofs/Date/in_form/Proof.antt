@@ -1,41 +1,15 @@
--- `calendar::Date::in_form` meets its contract: each return is a test of `isDate` that fails, the last one what is left of it.
--- Assumes nothing.
-use borrow.Author.Tests.{le-leb, lt-leb}
+-- `calendar::Date::in_form` meets its contract. Assumes nothing.
 use Rattle.calendar.specs.Dates.{isDate, year, month, day}
 use borrow.Author.Needs.{needs}
 use Rattle.calendar.proofs.Date.in_form.Statement.{statement}
 use Rattle.calendar.proofs.Date.in_form.Tie as tie
 
+is-day-requires : tie.Need-is-day-requires
+is-day-requires c κs = search needs
+
 returns : tie.Need-returns
 unfolding isDate year month day
-returns c = rw (lt-leb _ _ (c .if1 .taken))
-
-returns-2 : tie.Need-returns-2
-unfolding isDate year month day
-returns-2 c = rw (le-leb _ _ (c .before .if1 .left), lt-leb _ _ (c .if2 .taken))
-
-returns-3 : tie.Need-returns-3
-unfolding isDate year month day
-returns-3 c = rw (le-leb _ _ (c .before .before .if1 .left), le-leb _ _ (c .before .if2 .left), lt-leb _ _ (c .if3 .taken))
-
-returns-4 : tie.Need-returns-4
-unfolding isDate year month day
-returns-4 c = rw (le-leb _ _ (c .before .before .before .if1 .left), le-leb _ _ (c .before .before .if2 .left), le-leb _ _ (c .before .if3 .left), lt-leb _ _ (c .if4 .taken))
-
-returns-5 : tie.Need-returns-5
-unfolding isDate year month day
-returns-5 c = rw (le-leb _ _ (c .before .before .before .before .if1 .left), le-leb _ _ (c .before .before .before .if2 .left), le-leb _ _ (c .before .before .if3 .left), le-leb _ _ (c .before .if4 .left), lt-leb _ _ (c .if5 .taken))
-
-month-length-requires : tie.Need-month-length-requires
-month-length-requires c κs = search needs
-
-returns-6 : tie.Need-returns-6
-unfolding isDate year month day
-returns-6 c =
-    let t = c .before in
-    rw (le-leb _ _ (t .before .before .before .before .if1 .left), le-leb _ _ (t .before .before .before .if2 .left), le-leb _ _ (t .before .before .if3 .left), le-leb _ _ (t .before .if4 .left), le-leb _ _ (t .if5 .left), c .month-length .ensures)
+returns c = c .is-day .ensures
 
 pub in-form-spec : {M : Type 1} → statement M
-in-form-spec =
-    tie.close
-    (tie.spec returns returns-2 returns-3 returns-4 returns-5 month-length-requires returns-6)
+in-form-spec = tie.close (tie.spec is-day-requires returns)

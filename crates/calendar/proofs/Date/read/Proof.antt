@@ -1,45 +1,27 @@
 -- `calendar::Date::read` meets its contract. Assumes nothing.
-use Rattle.calendar.specs.Dates.{dateRead, dateFrom}
+use mathlib.Core.Path.{sym, _∙_}
+use native.Mathlib.Omega.{arith}
+use Rattle.calendar.proofs.Parts.{not-eight, eight-wrong, eight}
 use borrow.Author.Needs.{needs}
 use Rattle.calendar.proofs.Date.read.Statement.{statement}
 use Rattle.calendar.proofs.Date.read.Tie as tie
 
-read-fixed-requires : tie.Need-read-fixed-requires
-read-fixed-requires c κs = search needs
-
-enum-known-n : tie.Need-enum-known-n
-enum-known-n c = search needs
-
-enum-told : tie.Need-enum-told
-enum-told c = search needs
-
 returns : tie.Need-returns
-unfolding dateRead dateFrom
-returns c = rw (← c .before .before .read-fixed .ensures, c .enum-told .given .1)
+returns c = not-eight _ (c .if1 .taken)
 
-in-form-requires : tie.Need-in-form-requires
-in-form-requires c κs = search needs
+all-digits-requires : tie.Need-all-digits-requires
+all-digits-requires c κs = search needs
+
+date-in-requires : tie.Need-date-in-requires
+date-in-requires c κs = (omega arith, sym (c .before .all-digits .ensures) ∙ c .if2 .taken)
 
 returns-2 : tie.Need-returns-2
-unfolding dateRead dateFrom
 returns-2 c =
-    let at = c .before .before .before in
-    rw (← at .before .before .read-fixed .ensures, at .n .given .1, ← c .before .in-form .ensures, c .if1 .taken)
+    let t = c .before in
+    c .date-in .ensures ∙ eight _ (t .before .before .if1 .left) (sym (t .before .all-digits .ensures) ∙ t .if2 .taken)
 
 returns-3 : tie.Need-returns-3
-unfolding dateRead dateFrom
-returns-3 c =
-    let at = c .before .before .before in
-    rw (← at .before .before .read-fixed .ensures, at .n .given .1, ← c .before .in-form .ensures, c .if1 .left)
+returns-3 c = eight-wrong _ (sym (c .before .all-digits .ensures) ∙ c .if2 .left)
 
 pub read-spec : {M : Type 1} → statement M
-read-spec =
-    tie.close
-    (tie.spec
-    read-fixed-requires
-    enum-known-n
-    enum-told
-    returns
-    in-form-requires
-    returns-2
-    returns-3)
+read-spec = tie.close (tie.spec returns all-digits-requires date-in-requires returns-2 returns-3)

@@ -1,45 +1,117 @@
 -- `calendar::Moment::read` meets its contract. Assumes nothing.
-use Rattle.calendar.specs.Dates.{momentRead, momentFrom, momentOf}
+use mathlib.Core.Path.{_≡_, refl, sym, ap, _∙_}
+use mathlib.Core.Bool.{true}
+use lib.ListN.{length, length-take}
+use native.Mathlib.Omega.{arith}
+use denote.Ref.{now}
+use borrow.Author.Tests.{not-true, not-false}
+use Rattle.text.specs.Classes.{allIn}
+use Rattle.text.specs.declared.Class.the-variants.{Digit}
+use Rattle.text.proofs.Laws.{rest-of}
+use Rattle.calendar.proofs.Parts.{not-fourteen, front-wrong, back-wrong, overlap, no-date, no-time, moment-good}
 use borrow.Author.Needs.{needs}
 use Rattle.calendar.proofs.Moment.read.Statement.{statement}
 use Rattle.calendar.proofs.Moment.read.Tie as tie
 
-read-fixed-requires : tie.Need-read-fixed-requires
-read-fixed-requires c κs = search needs
+-- all fourteen bytes are digits from there on
+size : (c : tie.Else3) → length (now (c .before .before .before .before .before .before .before .before .args .part)) ≡ 14
+size c = c .before .before .before .before .before .before .if1 .left
 
-enum-known-n : tie.Need-enum-known-n
-enum-known-n c = search needs
+all : (c : tie.Else3) → allIn Digit (now (c .before .before .before .before .before .before .before .before .args .part)) ≡ true
+all c =
+    let e = c .before .before .before in
+    let s = now (c .before .before .before .before .before .before .before .before .args .part) in
+    overlap s (sym (e .before .all-digits .ensures) ∙ not-false _ (e .if2 .left))
+    (sym (ap (allIn Digit) (rest-of 6 _ s refl)) ∙ sym (c .before .all-digits2 .ensures) ∙ not-false _ (c .if3 .left))
+
+returns : tie.Need-returns
+returns c = not-fourteen _ (c .if1 .taken)
+
+slice-aggregate-all-digits : tie.Need-slice-aggregate-all-digits
+slice-aggregate-all-digits c = rw length-take (omega arith)
+
+all-digits-requires : tie.Need-all-digits-requires
+all-digits-requires c κs = search needs
+
+returns-2 : tie.Need-returns-2
+returns-2 c = front-wrong _ (sym (c .before .all-digits .ensures) ∙ not-true _ (c .if2 .taken))
+
+sub-all-digits : tie.Need-sub-all-digits
+sub-all-digits c = search needs
+
+part-all-digits-start : tie.Need-part-all-digits-start
+part-all-digits-start c = search needs
+
+part-all-digits-end : tie.Need-part-all-digits-end
+part-all-digits-end c = search needs
+
+all-digits-requires-2 : tie.Need-all-digits-requires-2
+all-digits-requires-2 c κs = search needs
+
+returns-3 : tie.Need-returns-3
+returns-3 c =
+    let s = now (c .before .before .before .before .before .before .before .before .args .part) in
+    back-wrong s (sym (ap (allIn Digit) (rest-of 6 _ s refl)) ∙ sym (c .before .all-digits2 .ensures) ∙ not-true _ (c .if3 .taken))
+
+date-in-requires : tie.Need-date-in-requires
+date-in-requires c κs = let n = size c in (omega arith, all c)
+
+enum-known-date : tie.Need-enum-known-date
+enum-known-date c = search needs
 
 enum-told : tie.Need-enum-told
 enum-told c = search needs
 
-returns : tie.Need-returns
-unfolding momentRead momentFrom momentOf
-returns c = rw (← c .before .before .read-fixed .ensures, c .enum-told .given .1)
+returns-4 : tie.Need-returns-4
+returns-4 c =
+    let d = c .before .before in
+    no-date _ (size (d .before)) (all (d .before)) (sym (d .date-in .ensures) ∙ c .enum-told .given .1)
 
-in-form-requires : tie.Need-in-form-requires
-in-form-requires c κs = search needs
+time-in-requires : tie.Need-time-in-requires
+time-in-requires c κs =
+    let e = c .before .before .before .before in
+    let n = size e in
+    (omega arith, all e)
 
-returns-2 : tie.Need-returns-2
-unfolding momentRead momentFrom momentOf
-returns-2 c =
-    let at = c .before .before .before in
-    rw (← at .before .before .read-fixed .ensures, at .n .given .1, ← c .before .in-form .ensures, c .if1 .taken)
+enum-known-time : tie.Need-enum-known-time
+enum-known-time c = search needs
 
-returns-3 : tie.Need-returns-3
-unfolding momentRead momentFrom momentOf
-returns-3 c =
-    let at = c .before .before .before in
-    rw (← at .before .before .read-fixed .ensures, at .n .given .1, ← c .before .in-form .ensures, c .if1 .left)
+enum-told-2 : tie.Need-enum-told-2
+enum-told-2 c = search needs
+
+returns-5 : tie.Need-returns-5
+returns-5 c =
+    let t = c .before .before in
+    let k = t .before .before in
+    let d = k .before .before in
+    no-time _ (size (d .before)) (all (d .before)) _ (sym (d .date-in .ensures) ∙ k .date .given .1) (sym (t .time-in .ensures) ∙ c .enum-told2 .given .1)
+
+returns-6 : tie.Need-returns-6
+returns-6 c =
+    let t = c .before .before .before in
+    let k = t .before .before in
+    let d = k .before .before in
+    moment-good _ (size (d .before)) (all (d .before)) _ (sym (d .date-in .ensures) ∙ k .date .given .1) _ (sym (t .time-in .ensures) ∙ c .before .time .given .1)
 
 pub read-spec : {M : Type 1} → statement M
 read-spec =
     tie.close
     (tie.spec
-    read-fixed-requires
-    enum-known-n
-    enum-told
     returns
-    in-form-requires
+    slice-aggregate-all-digits
+    all-digits-requires
     returns-2
-    returns-3)
+    sub-all-digits
+    part-all-digits-start
+    part-all-digits-end
+    all-digits-requires-2
+    returns-3
+    date-in-requires
+    enum-known-date
+    enum-told
+    returns-4
+    time-in-requires
+    enum-known-time
+    enum-told-2
+    returns-5
+    returns-6)
