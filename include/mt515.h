@@ -1,5 +1,5 @@
-/* mt515.h: the MT515 for a C program: read one, take one field of it, put it into its plain form, write a record as one, take
- * a batch apart.
+/* mt515.h: the MT515 for a C program: read one, take one field of it or all, put it into its plain form, write a record as one,
+ * take a batch apart.
  *
  * Every entry may be called with any bytes and any numbers, also from several threads at once: none keeps anything between
  * calls, none takes memory, and each always returns. What they answer is proved for every input (docs/PROMISES.md). A caller
@@ -70,6 +70,12 @@
 #define MT515_SLOT_POOL 20
 #define MT515_SLOT_NARRATIVE 21
 
+/* What mt515_places tells of a message: the slots above by their numbers, and two of its header. The places of so many fields are
+ * lent, from 0 on. */
+#define MT515_FIELD_PASSWORD 22
+#define MT515_FIELD_SENDER 23
+#define MT515_FIELDS 24
+
 /* A record as 375 bytes: where each of its places begins. Four codes of one byte: */
 #define MT515_AT_KIND 0             /* 0 INST, 1 CANC, 2 MDFC, 3 TDDK */
 #define MT515_AT_SIDE 1             /* 0 BUYI, 1 SELL */
@@ -108,6 +114,11 @@ uint8_t mt515_read(const uint8_t *message, size_t length, uint8_t record[MT515_R
  * read. A refused message, a number that names no slot and a slot that the message does not have give 0 and 0; a value that is
  * there is never empty. */
 uint8_t mt515_field(const uint8_t *message, size_t length, size_t slot, size_t *offset, size_t *count);
+
+/* All fields of a message in one call. Answers the number of the read, with its line in `*line`. `starts[f]` and `ends[f]`: where
+ * in `message` the value of field f begins and where it ends, for a slot the very stretch that mt515_field gives; both 0 where the
+ * message has no such field, with a blank password too, at index 0, and everywhere beside a refusal. */
+uint8_t mt515_places(const uint8_t *message, size_t length, size_t starts[MT515_FIELDS], size_t ends[MT515_FIELDS], size_t *line);
 
 /* Writes the plain form of a message into `out`, which has `room` bytes. Answers 0, with `*line` 0 and the length in
  * `*written`, and the bytes of `out` after it keep their values; or the number and line of the read's refusal, or else 19 with

@@ -218,6 +218,7 @@ struct buffer { uint8_t before[GUARD], bytes[BUFFER], behind[GUARD]; };
 struct number { uint8_t before[GUARD]; size_t value; uint8_t behind[GUARD]; };
 struct byte { uint8_t before[GUARD], value, behind[GUARD]; };
 struct record { uint8_t before[GUARD], bytes[MT515_RECORD], behind[GUARD]; };
+struct places { uint8_t before[GUARD]; size_t of[MT515_FIELDS]; uint8_t behind[GUARD]; };
 
 #define MARKED(lent) memset(&(lent), MARK, sizeof (lent))
 #define GUARDED(lent, at) \
@@ -273,6 +274,28 @@ static struct field_answer field_of(const void *message, size_t length, size_t s
     GUARDED(count, slot);
     want(memcmp(lent, message, length) == 0, "field changed the message", slot);
     return (struct field_answer){ number, offset.value, count.value };
+}
+
+struct places_answer { uint8_t number; size_t line, starts[MT515_FIELDS], ends[MT515_FIELDS]; };
+
+static struct places_answer places_of(const void *message, size_t length)
+{
+    struct places starts, ends;
+    struct number line;
+    struct places_answer answer;
+    const uint8_t *lent = lend(message, length);
+    MARKED(starts);
+    MARKED(ends);
+    MARKED(line);
+    answer.number = mt515_places(lent, length, starts.of, ends.of, &line.value);
+    GUARDED(starts, length);
+    GUARDED(ends, length);
+    GUARDED(line, length);
+    want(memcmp(lent, message, length) == 0, "places changed the message", length);
+    answer.line = line.value;
+    memcpy(answer.starts, starts.of, sizeof answer.starts);
+    memcpy(answer.ends, ends.of, sizeof answer.ends);
+    return answer;
 }
 
 struct written { uint8_t number; size_t line, length; };
@@ -388,6 +411,10 @@ static void read_wants(const void *message, size_t length, uint8_t number, size_
     struct field_answer f = field_of(message, length, MT515_SLOT_SEME);
     want(f.number == number && (number == MT515_ACCEPTED) == (f.count > 0), "field answers another number, or a place", length);
     want(number == MT515_ACCEPTED || f.offset == 0, "an offset beside a refusal", length);
+    struct places_answer p = places_of(message, length);
+    want(p.number == number && p.line == line, "places answers another number or line", length);
+    for (size_t i = 0; number != MT515_ACCEPTED && i < MT515_FIELDS; i++)
+        want(p.starts[i] == 0 && p.ends[i] == 0, "a place beside a refusal", i);
 }
 
 static void reads_B(void)
@@ -498,6 +525,37 @@ static void fields(void)
     fields_of(B, of_B);
     fields_of(WIDEST, of_widest);
     fields_of(DK, of_DK);
+}
+
+/* ---------------------------------------------------------------- all fields */
+
+/* Each slot stands where mt515_field says, and the password and the sender are the first two lines. */
+static void places_are(const char *message, const char *password, const char *sender)
+{
+    struct places_answer p = places_of(message, strlen(message));
+    size_t second = line_start(message, 2);
+    want(p.number == MT515_ACCEPTED && p.line == 0, "places: number and line", p.number);
+    want(p.starts[0] == 0 && p.ends[0] == 0, "places: index 0", p.ends[0]);
+    for (size_t slot = 1; slot <= MT515_SLOT_NARRATIVE; slot++) {
+        struct field_answer f = field_of(message, strlen(message), slot);
+        want(p.starts[slot] == f.offset && p.ends[slot] == f.offset + f.count, "places: a slot", slot);
+    }
+    want(p.starts[MT515_FIELD_PASSWORD] == 0, "places: the password's start", p.starts[MT515_FIELD_PASSWORD]);
+    want(p.ends[MT515_FIELD_PASSWORD] == strlen(password), "places: the password's end", p.ends[MT515_FIELD_PASSWORD]);
+    want(memcmp(message, password, strlen(password)) == 0, "places: the password's table is wrong", 0);
+    want(p.starts[MT515_FIELD_SENDER] == second, "places: the sender's start", p.starts[MT515_FIELD_SENDER]);
+    want(p.ends[MT515_FIELD_SENDER] == second + strlen(sender), "places: the sender's end", p.ends[MT515_FIELD_SENDER]);
+    want(memcmp(message + second, sender, strlen(sender)) == 0, "places: the sender's table is wrong", 0);
+}
+
+static void all_fields(void)
+{
+    heading("all fields of B, of its plain form, of an MDFC with every field and of a TDDK, with password and sender");
+    want(MT515_FIELDS == MT515_FIELD_SENDER + 1, "the header: how many fields", MT515_FIELDS);
+    places_are(B, "", "0017");
+    places_are(B_PLAIN, "", "0017");
+    places_are(WIDEST, "PASSWORD1234", "SENDER12");
+    places_are(DK, "PW", "0015");
 }
 
 /* ---------------------------------------------------------------- plain form and writing, with every room */
@@ -716,6 +774,7 @@ int main(void)
     reads_B();
     refuses();
     fields();
+    all_fields();
     rooms();
     records();
     batch();

@@ -37,15 +37,16 @@ static struct {
 } now;
 
 /* How often each number came up, by entry; and last, with reading, of the messages damaged by lines alone. */
-enum { READ, FIELD, PLAIN, WRITE, NEXT, LINES, COUNTED };
+enum { READ, FIELD, PLACES, PLAIN, WRITE, NEXT, LINES, COUNTED };
 static uint64_t came_up[COUNTED][NUMBERS_OF_DESK];
-static const char *const entries[] = { "read", "field", "plain", "write", "next", "lines" };
+static const char *const entries[] = { "read", "field", "places", "plain", "write", "next", "lines" };
 
 /* What an entry answers, and all that it is lent; marked beforehand, so that what it does not answer keeps the mark. */
 struct told {
     uint8_t found, between, number, behind;
     size_t line;
     size_t offset, count;            /* of a field */
+    size_t before, starts[MT515_FIELDS], between_places, ends[MT515_FIELDS], after;    /* of all fields, between guards */
     size_t written;
     size_t next;
     uint8_t lent[GUARD + MOST_ROOM + GUARD];    /* the record, or the buffer, between guards */
@@ -132,6 +133,10 @@ static void print_difference(int entry, const struct told *library, const struct
     print_asked(entry);
     print_told("the library       ", library);
     print_told("the second program", second);
+    for (size_t f = 0; entry == PLACES && f < MT515_FIELDS; f++)
+        if (library->starts[f] != second->starts[f] || library->ends[f] != second->ends[f])
+            printf("field %zu: %zu to %zu, %zu to %zu\n", f, library->starts[f], library->ends[f], second->starts[f],
+                   second->ends[f]);
     for (size_t i = 0; i < sizeof library->lent; i++)
         if (library->lent[i] != second->lent[i]) {
             printf("what is lent differs first at byte %td: %u, %u\n", (ptrdiff_t)i - GUARD, library->lent[i], second->lent[i]);
@@ -199,6 +204,36 @@ static void ask_fields(struct chance *chance, const uint8_t *message, size_t len
             ask_field(message, length, slot, number, fields[slot]);
         }
     ask_field(message, length, below(chance, 4) == 0 ? FIELDS + 1 : none[below(chance, sizeof none / sizeof none[0])], number, fields[0]);
+}
+
+/* All fields; the password and the sender by the second program's record, which stand on the first two lines. */
+static void ask_places(const uint8_t *message, size_t length)
+{
+    static struct told library, second;
+    struct record record;
+    struct stretch fields[FIELDS + 1];
+    marked(&library);
+    library.number = mt515_places(message, length, library.starts, library.ends, &library.line);
+
+    marked(&second);
+    struct answer answer = second_read(message, length, &record);
+    second.number = (uint8_t)answer.number;
+    second.line = answer.line;
+    memset(second.starts, 0, sizeof second.starts);
+    memset(second.ends, 0, sizeof second.ends);
+    second_fields(message, length, fields);
+    for (size_t slot = 0; slot <= FIELDS; slot++) {
+        second.starts[slot] = fields[slot].offset;
+        second.ends[slot] = fields[slot].offset + fields[slot].length;
+    }
+    if (answer.number == ACCEPTED) {
+        size_t line = 0;
+        while (message[line++] != '\n') {}
+        second.ends[MT515_FIELD_PASSWORD] = record.password.length;
+        second.starts[MT515_FIELD_SENDER] = line;
+        second.ends[MT515_FIELD_SENDER] = line + record.sender.length;
+    }
+    compare(PLACES, &library, &second);
 }
 
 static size_t ask_plain(const uint8_t *message, size_t length, size_t room)
@@ -329,6 +364,7 @@ static int try_message(struct chance *chance, const struct bytes *message)
 
     ask_read(lent, message->length);
     ask_fields(chance, lent, message->length, (uint8_t)answer.number);
+    ask_places(lent, message->length);
     if (answer.number == ACCEPTED)
         ask_rooms(chance, ask_plain, lent, message->length);
     else
@@ -401,7 +437,7 @@ static bool reached(uint64_t count)
 {
     bool all = true;
     for (int entry = READ; entry < COUNTED; entry++) {
-        printf("%-5s", entries[entry]);
+        printf("%-6s", entries[entry]);
         for (int n = 0; n < NUMBERS_OF_DESK; n++) {
             uint64_t least = entry == WRITE ? count / TENTH / SELDOM : count / SELDOM;
             if (came_up[entry][n] > 0)

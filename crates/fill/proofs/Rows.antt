@@ -17,8 +17,8 @@ use Rattle.layout.proofs.Laws.{row-next, row-none, row-at, text-at}
 use Rattle.sheets.specs.Filled.{some}
 use Rattle.fill.specs.Runs.{overRun, behindRun}
 use Rattle.fill.specs.Filling.{isAny, withEnding, heldParts, lower, deeper, hasValue, anyRows, stands, opener, puts, walk}
-use Rattle.fill.specs.Steps.{isOn, nextParts, nextOff}
-use Rattle.fill.proofs.Runs.{Run, over-append, behind-append, length-run}
+use Rattle.fill.specs.Steps.{isHeld, isEdge, lineParts, isOn, nextParts, nextOff}
+use Rattle.fill.proofs.Runs.{Run, then, none-run, over-append, behind-append, length-run}
 use Rattle.fill.proofs.Trees.{any-none}
 
 -- ---- numbers in a list
@@ -114,24 +114,20 @@ module _ (s : ℕ) (k : List ℕ) where
       (λ m h. rw (none-above (1 ∷ 2 ∷ []) m refl h, ne-eqb m 8 (λ z. let w : ⊥ = omega arith in w))) n
 
   pub stands-by : (value : ℕ → List ℕ) (rows : List Row) (n : ℕ)
-      → stands value rows (rowOf n s k) ≡ cond (isAny (2 ∷ 8 ∷ []) n) (some (value s)) (cond (eqb n 4) (anyRows value 1 rows) true)
+      → stands value rows (rowOf n s k) ≡ cond (isHeld n) (eqb n 1 || some (value s)) (cond (isEdge n) (cond (eqb n 4) (anyRows value 1 rows) true) true)
   unfolding stands
   stands-by value rows n =
-      by-kind (λ m r. stands value rows r ≡ cond (isAny (2 ∷ 8 ∷ []) m) (some (value s)) (cond (eqb m 4) (anyRows value 1 rows) true)) s k
+      by-kind (λ m r. stands value rows r ≡ cond (isHeld m) (eqb m 1 || some (value s)) (cond (isEdge m) (cond (eqb m 4) (anyRows value 1 rows) true) true)) s k
       refl refl refl refl refl refl refl refl refl refl
-      (λ m h. rw (none-above (2 ∷ 8 ∷ []) m refl h, ne-eqb m 4 (λ z. let w : ⊥ = omega arith in w))) n
+      (λ m h. rw (none-above (1 ∷ 2 ∷ 8 ∷ []) m refl h, none-above (3 ∷ 4 ∷ 5 ∷ 9 ∷ []) m refl h)) n
 
   pub puts-by : (parts : ℕ → List (List ℕ)) (first : List ℕ) (n : ℕ)
-      → puts parts first (rowOf n s k)
-      ≡ cond (isAny (1 ∷ 2 ∷ []) n) (heldParts parts s k)
-      (cond (isAny (3 ∷ 4 ∷ []) n) (withEnding k) (cond (isAny (5 ∷ 9 ∷ []) n) (withEnding k) (cond (eqb n 8) (puts parts first (rowOf 8 s k)) [])))
-  unfolding puts rowOf
+      → puts parts first (rowOf n s k) ≡ cond (isHeld n) (cond (eqb n 8) (withEnding first) [] ++ heldParts parts s k) (cond (isEdge n) (withEnding k) [])
+  unfolding puts
   puts-by parts first n =
-      by-kind (λ m r. puts parts first r
-      ≡ cond (isAny (1 ∷ 2 ∷ []) m) (heldParts parts s k)
-      (cond (isAny (3 ∷ 4 ∷ []) m) (withEnding k) (cond (isAny (5 ∷ 9 ∷ []) m) (withEnding k) (cond (eqb m 8) (puts parts first (rowOf 8 s k)) [])))) s k
+      by-kind (λ m r. puts parts first r ≡ cond (isHeld m) (cond (eqb m 8) (withEnding first) [] ++ heldParts parts s k) (cond (isEdge m) (withEnding k) [])) s k
       refl refl refl refl refl refl refl refl refl refl
-      (λ m h. rw (none-above (1 ∷ 2 ∷ []) m refl h, none-above (3 ∷ 4 ∷ []) m refl h, none-above (5 ∷ 9 ∷ []) m refl h, ne-eqb m 8 (λ z. let w : ⊥ = omega arith in w))) n
+      (λ m h. rw (none-above (1 ∷ 2 ∷ 8 ∷ []) m refl h, none-above (3 ∷ 4 ∷ 5 ∷ 9 ∷ []) m refl h)) n
 
   -- the last many blocks
   pub opener-is : (first : List ℕ) (n : ℕ) → opener first (rowOf n s k) ≡ cond (isAny (6 ∷ 7 ∷ []) n) k first
@@ -140,10 +136,11 @@ module _ (s : ℕ) (k : List ℕ) where
       by-kind (λ m r. opener first r ≡ cond (isAny (6 ∷ 7 ∷ []) m) k first) s k refl refl refl refl refl refl refl refl refl refl
       (λ m h. rw (none-above (6 ∷ 7 ∷ []) m refl h)) n
 
--- a row puts what stands behind its own slot, and no other's
-pub puts-of : (s : ℕ) (k : List ℕ) (parts : ℕ → List (List ℕ)) (first : List ℕ) (n : ℕ) → puts (λ (slot : ℕ). parts s) first (rowOf n 0 k) ≡ puts parts first (rowOf n s k)
-unfolding puts rowOf
-puts-of s k parts first n = puts-by 0 k (λ (slot : ℕ). parts s) first n ∙ sym (puts-by s k parts first n)
+-- no other row opens many blocks
+many-by : (n : ℕ) → isAny (6 ∷ 7 ∷ []) n ≡ cond (isHeld n) false (cond (isEdge n) false (isAny (6 ∷ 7 ∷ []) n))
+many-by n =
+    by-kind (λ m r. isAny (6 ∷ 7 ∷ []) m ≡ cond (isHeld m) false (cond (isEdge m) false (isAny (6 ∷ 7 ∷ []) m))) 0 [] refl refl refl refl refl refl refl refl refl refl
+    (λ m h. rw (none-above (6 ∷ 7 ∷ []) m refl h, none-above (1 ∷ 2 ∷ 8 ∷ []) m refl h, none-above (3 ∷ 4 ∷ 5 ∷ 9 ∷ []) m refl h)) n
 
 -- ---- a row further
 
@@ -259,6 +256,62 @@ module _ (value : ℕ → List ℕ) (parts : ℕ → List (List ℕ)) where
     next-past b e g o off' d =
         let f : isOn value off behind (rowOf kind slot (textAt t row)) ≡ false = on-is ∙ sym e ∙ g in
         rw (row-is t row h, f) (refl, refl, d ∙ deeper-by 0 [] kind off ∙ sym (deeper-by slot (textAt t row) kind off), opened o)
+
+    -- in a block that does not stand
+    pub next-off : (off ≡ 0 → ⊥) → place' ≡ cond (isAny (6 ∷ 7 ∷ []) kind) row place → (off' : ℕ) → off' ≡ deeper (rowOf kind 0 []) off
+        → Next t row off place buf at buf at off' place'
+    unfolding isOn
+    next-off z o off' d = next-past false (rw (ne-eqb off 0 z)) refl o off' d
+
+  -- where all blocks around it stand, by the kind of the row
+  module _ (t : List ℕ) (row place : ℕ) (buf : List ℕ) (at : ℕ) (h : row < length t / 16) where
+    -- with a slot
+    module _ (is : isHeld (getD t (row * 16) 0) ≡ true) (front v : List ℕ) (ve : value (getD t (row * 16 + 1) 0) ≡ front ++ v) (b : Bool)
+        (e : b ≡ (eqb (getD t (row * 16) 0) 1 || some (front ++ v))) where
+      held-stands : b ≡ isOn value 0 (drop (row + 1) (rowsOf t)) (rowOf (getD t (row * 16) 0) (getD t (row * 16 + 1) 0) [])
+      unfolding isOn
+      held-stands = e ∙ rw (stands-by (getD t (row * 16 + 1) 0) [] value (drop (row + 1) (rowsOf t)) (getD t (row * 16) 0), is, ve)
+
+      held-many : place ≡ cond (isAny (6 ∷ 7 ∷ []) (getD t (row * 16) 0)) row place
+      held-many = rw (many-by (getD t (row * 16) 0), is)
+
+      pub held-on : b ≡ true → parts (getD t (row * 16 + 1) 0) ≡ front ∷ v ∷ [] → (from : ℕ) (between : List ℕ)
+          → Run buf at (cond (eqb (getD t (row * 16) 0) 8) (withEnding (textAt t place)) []) from between
+          → (key : List ℕ) → key ≡ textAt t row → (at' : ℕ) (buf' : List ℕ) → Run between from (lineParts key front v) at' buf'
+          → Next t row 0 place buf at buf' at' 0 place
+      held-on g pe from between p key ke at' buf' q =
+          next-on t row 0 place place buf at h b held-stands g held-many key (textAt t place) ke refl at' buf'
+          (rw (puts-by (getD t (row * 16 + 1) 0) key parts (textAt t place) (getD t (row * 16) 0), is, pe)
+          (then buf at (cond (eqb (getD t (row * 16) 0) 8) (withEnding (textAt t place)) []) (lineParts key front v) p q))
+
+      pub held-past : b ≡ false → (off' : ℕ) → off' ≡ deeper (rowOf (getD t (row * 16) 0) 0 []) 0 → Next t row 0 place buf at buf at off' place
+      held-past g off' d = next-past t row 0 place place buf at h b held-stands g held-many off' d
+
+    -- without one
+    module _ (no : isHeld (getD t (row * 16) 0) ≡ false) where
+      -- the first or last line of a block
+      module _ (is : isEdge (getD t (row * 16) 0) ≡ true) (b : Bool) (e : b ≡ cond (eqb (getD t (row * 16) 0) 4) (anyRows value 1 (drop (row + 1) (rowsOf t))) true) where
+        edge-stands : b ≡ isOn value 0 (drop (row + 1) (rowsOf t)) (rowOf (getD t (row * 16) 0) (getD t (row * 16 + 1) 0) [])
+        unfolding isOn
+        edge-stands = e ∙ rw (stands-by (getD t (row * 16 + 1) 0) [] value (drop (row + 1) (rowsOf t)) (getD t (row * 16) 0), no, is)
+
+        edge-many : place ≡ cond (isAny (6 ∷ 7 ∷ []) (getD t (row * 16) 0)) row place
+        edge-many = rw (many-by (getD t (row * 16) 0), no, is)
+
+        pub edge-on : b ≡ true → (key : List ℕ) → key ≡ textAt t row → (at' : ℕ) (buf' : List ℕ) → Run buf at (withEnding key) at' buf' → Next t row 0 place buf at buf' at' 0 place
+        edge-on g key ke at' buf' q =
+            next-on t row 0 place place buf at h b edge-stands g edge-many key (textAt t place) ke refl at' buf'
+            (rw (puts-by (getD t (row * 16 + 1) 0) key parts (textAt t place) (getD t (row * 16) 0), no, is) q)
+
+        pub edge-past : b ≡ false → (off' : ℕ) → off' ≡ deeper (rowOf (getD t (row * 16) 0) 0 []) 0 → Next t row 0 place buf at buf at off' place
+        edge-past g off' d = next-past t row 0 place place buf at h b edge-stands g edge-many off' d
+
+      -- no line
+      pub next-none : isEdge (getD t (row * 16) 0) ≡ false → (place' : ℕ) → place' ≡ cond (isAny (6 ∷ 7 ∷ []) (getD t (row * 16) 0)) row place → Next t row 0 place buf at buf at 0 place'
+      unfolding isOn
+      next-none nor place' o =
+          next-on t row 0 place place' buf at h true (rw (stands-by (getD t (row * 16 + 1) 0) [] value (drop (row + 1) (rowsOf t)) (getD t (row * 16) 0), no, nor)) refl o (textAt t row) (textAt t place) refl refl at buf
+          (rw (puts-by (getD t (row * 16 + 1) 0) (textAt t row) parts (textAt t place) (getD t (row * 16) 0), no, nor) (none-run buf at))
 
   -- all rows: what is put from a row on is what is put from the first on
   abbrev pub Same : List ℕ → List ℕ → ℕ → ℕ → ℕ → ℕ → List ℕ → ℕ → Type 0

@@ -6,13 +6,27 @@ ghost use lib.Dec.{eqb};
 ghost use Rattle.stretches.specs.Stretches.{stretchOf};
 ghost use Rattle.fill.specs.Runs.{overRun, behindRun};
 ghost use Rattle.fill.specs.Filling.{isAny, fixedIn, withEnding};
-ghost use Rattle.fill.specs.Steps.{lineParts, putsOf};
+ghost use Rattle.fill.specs.Steps.{isHeld, isEdge, lineParts};
 
 // A number is one of two.
 pub(crate) fn either(n: u8, a: u8, b: u8) -> bool
     ensures { λ r. ⌜ r ≡ isAny (a ∷ b ∷ []) n ⌝ }
 {
     (n == a) | (n == b)
+}
+
+// A row has a slot: it is a field, or the first field of one of many blocks.
+pub(crate) fn is_held(kind: u8) -> bool
+    ensures { λ r. ⌜ r ≡ isHeld kind ⌝ }
+{
+    (kind == 1) | either(kind, 2, 8)
+}
+
+// A row is the first or last line of a block.
+pub(crate) fn is_edge(kind: u8) -> bool
+    ensures { λ r. ⌜ r ≡ isEdge kind ⌝ }
+{
+    (kind == 3) | ((kind == 4) | either(kind, 5, 9))
 }
 
 // The value of a slot.
@@ -53,7 +67,7 @@ pub(crate) fn front<'a, 'b>(
 }
 
 // The first or last line of a block.
-fn put_edge(buf: &mut [u8], at: usize, key: &[u8]) -> usize
+pub(crate) fn put_edge(buf: &mut [u8], at: usize, key: &[u8]) -> usize
     ensures { λ r. ⌜ (r ≡ behindRun (now (buf .entry)) at (withEnding (now (key .entry)))) × (now (buf .exit) ≡ overRun (now (buf .entry)) at (withEnding (now (key .entry)))) ⌝ }
 {
     let end = text::put(buf, at, key);
@@ -61,53 +75,11 @@ fn put_edge(buf: &mut [u8], at: usize, key: &[u8]) -> usize
 }
 
 // The line of a slot: its text, the fixed text and the value.
-fn put_line(buf: &mut [u8], at: usize, key: &[u8], front: &[u8], value: &[u8]) -> usize
+pub(crate) fn put_line(buf: &mut [u8], at: usize, key: &[u8], front: &[u8], value: &[u8]) -> usize
     ensures { λ r. ⌜ (r ≡ behindRun (now (buf .entry)) at (lineParts (now (key .entry)) (now (front .entry)) (now (value .entry)))) × (now (buf .exit) ≡ overRun (now (buf .entry)) at (lineParts (now (key .entry)) (now (front .entry)) (now (value .entry)))) ⌝ }
 {
     let fixed = text::put(buf, at, key);
     let from = text::put(buf, fixed, front);
     let behind = text::put(buf, from, value);
     text::put(buf, behind, b"\r\n")
-}
-
-// The first lines of one of many blocks.
-fn put_mark(
-    buf: &mut [u8],
-    at: usize,
-    first: &[u8],
-    key: &[u8],
-    front: &[u8],
-    value: &[u8],
-) -> usize
-    ensures { λ r. ⌜ (r ≡ behindRun (now (buf .entry)) at (putsOf (now (first .entry)) 8 (now (key .entry)) (now (front .entry)) (now (value .entry)))) × (now (buf .exit) ≡ overRun (now (buf .entry)) at (putsOf (now (first .entry)) 8 (now (key .entry)) (now (front .entry)) (now (value .entry)))) ⌝ }
-{
-    let from = put_edge(buf, at, first);
-    put_line(buf, from, key, front, value)
-}
-
-// A row that stands, by its kind: its text, and what stands behind that; `first` is the first line of the last many blocks.
-pub(crate) fn put_row(
-    buf: &mut [u8],
-    at: usize,
-    kind: u8,
-    first: &[u8],
-    key: &[u8],
-    front: &[u8],
-    value: &[u8],
-) -> usize
-    ensures { λ r. ⌜ (r ≡ behindRun (now (buf .entry)) at (putsOf (now (first .entry)) kind (now (key .entry)) (now (front .entry)) (now (value .entry)))) × (now (buf .exit) ≡ overRun (now (buf .entry)) at (putsOf (now (first .entry)) kind (now (key .entry)) (now (front .entry)) (now (value .entry)))) ⌝ }
-{
-    if either(kind, 1, 2) {
-        return put_line(buf, at, key, front, value);
-    }
-    if either(kind, 3, 4) {
-        return put_edge(buf, at, key);
-    }
-    if either(kind, 5, 9) {
-        return put_edge(buf, at, key);
-    }
-    if kind == 8 {
-        return put_mark(buf, at, first, key, front, value);
-    }
-    at
 }

@@ -4,13 +4,14 @@
 // 7 the opening of many blocks, 8 the first field of one of them, 9 its close; any other number ends them.
 use super::parts;
 ghost use mathlib.Core.Path.{_≡_};
-ghost use mathlib.Core.List.{[]};
+ghost use mathlib.Core.Bool.{true, _||_, cond};
+ghost use mathlib.Core.List.{[], _++_};
 ghost use Prim.Native.Nat.{_+_, _^_, _<_};
+ghost use lib.Dec.{eqb};
 ghost use lib.ListN.{drop};
 ghost use Rattle.layout.specs.Rows.{rowOf, rowsOf};
 ghost use Rattle.sheets.specs.Filled.{some};
-ghost use Rattle.fill.specs.Filling.{lent, behindAt, lower, deeper, hasValue, anyRows, stands};
-ghost use Rattle.fill.specs.Steps.{isOn};
+ghost use Rattle.fill.specs.Filling.{lent, behindAt, lower, deeper, hasValue, anyRows};
 
 fn lower(deep: usize) -> usize
     ensures { λ r. ⌜ r ≡ lower deep ⌝ }
@@ -102,10 +103,22 @@ fn any_value<'a>(
     false
 }
 
-// A row stands.
-fn stands<'a>(
+// The line of a row with a slot stands, with what stands behind its text.
+pub(crate) fn has_line(kind: u8, front: &[u8], value: &[u8]) -> bool
+    ensures { λ r. ⌜ r ≡ (eqb kind 1 || some (now (front .entry) ++ now (value .entry))) ⌝ }
+{
+    if kind == 1 {
+        return true;
+    }
+    if value.len() != 0 {
+        return true;
+    }
+    front.len() != 0
+}
+
+// A block's first or last line stands, where all blocks around it do.
+pub(crate) fn is_open<'a>(
     kind: u8,
-    slot: u8,
     rows: &[u8],
     row: usize,
     slots: &[u8],
@@ -115,35 +128,10 @@ fn stands<'a>(
     ends: &'a [usize],
 ) -> bool
     requires { ⌜ row + 1 < 2 ^ 64 ⌝ }
-    ensures { λ r. ⌜ r ≡ stands (behindAt (lent (now (slots .entry)) (now (optional .entry)) (now (text .entry)) (now (starts .entry)) (now (ends .entry)))) (drop (row + 1) (rowsOf (now (rows .entry)))) (rowOf kind slot []) ⌝ }
+    ensures { λ r. ⌜ r ≡ cond (eqb kind 4) (anyRows (behindAt (lent (now (slots .entry)) (now (optional .entry)) (now (text .entry)) (now (starts .entry)) (now (ends .entry)))) 1 (drop (row + 1) (rowsOf (now (rows .entry))))) true ⌝ }
 {
-    if parts::either(kind, 2, 8) {
-        return is_there(slot, slots, optional, text, starts, ends);
-    }
     if kind == 4 {
         return any_value(rows, row + 1, slots, optional, text, starts, ends);
     }
     true
-}
-
-// It stands, and so do the blocks around it.
-pub(crate) fn is_on<'a>(
-    off: usize,
-    kind: u8,
-    slot: u8,
-    rows: &[u8],
-    row: usize,
-    slots: &[u8],
-    optional: &[u8],
-    text: &[u8],
-    starts: &'a [usize],
-    ends: &'a [usize],
-) -> bool
-    requires { ⌜ row + 1 < 2 ^ 64 ⌝ }
-    ensures { λ r. ⌜ r ≡ isOn (behindAt (lent (now (slots .entry)) (now (optional .entry)) (now (text .entry)) (now (starts .entry)) (now (ends .entry)))) off (drop (row + 1) (rowsOf (now (rows .entry)))) (rowOf kind slot []) ⌝ }
-{
-    if off != 0 {
-        return false;
-    }
-    stands(kind, slot, rows, row, slots, optional, text, starts, ends)
 }

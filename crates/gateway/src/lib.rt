@@ -11,6 +11,7 @@ ghost use Rattle.packed.specs.Packed.{packedOf};
 ghost use Rattle.unpacked.specs.Unpacked.{unpackedOf};
 ghost use Rattle.batch.specs.Batch.{nextOf};
 ghost use Rattle.field.specs.Field.{placeOf};
+ghost use Rattle.places.specs.Places.{placesOf};
 ghost use Rattle.plain.specs.Asking.{askingOf, askedOver};
 ghost use Rattle.gateway.specs.Numbers.{turnNumber};
 
@@ -39,6 +40,25 @@ pub extern "C" fn mt515_field(
     *offset = place.offset;
     *count = place.count;
     place.number as u8
+}
+
+// All fields of a message: where each begins and where it ends.
+#[no_mangle]
+pub extern "C" fn mt515_places(
+    message: &[u8],
+    starts: &mut [usize; 24],
+    ends: &mut [usize; 24],
+    line: &mut usize,
+) -> u8
+    ensures { λ r. ⌜ (r ≡ placesOf (now (message .entry)) .number) × (now (starts .exit) ≡ placesOf (now (message .entry)) .starts) × (now (ends .exit) ≡ placesOf (now (message .entry)) .ends) × (now (line .exit) ≡ placesOf (now (message .entry)) .line) ⌝ }
+{
+    let places = places::places(message);
+    let begun = places.starts;
+    let ended = places.ends;
+    *starts = begun;
+    *ends = ended;
+    *line = places.line;
+    places.number as u8
 }
 
 // Writes the plain form of a message into a lent buffer.

@@ -1,0 +1,4 @@
+pub mod Loop
+pub mod Sheets
+pub mod Keeping
+pub mod Standing

@@ -1,0 +1,24 @@
+-- `places::begin` meets its contract. Assumes nothing.
+use borrow.Author.Needs.{needs}
+use borrow.Author.Tests.{eq-eqb, ne-eqb, lt-ltb, le-ltb}
+use Rattle.places.specs.Kept.{begunAt}
+use Rattle.places.proofs.begin.Statement.{statement}
+use Rattle.places.proofs.begin.Tie as tie
+
+returns : tie.Need-returns
+unfolding begunAt
+returns c = rw (ne-eqb _ _ (c .if1 .taken))
+
+add-result : tie.Need-add-result
+add-result c = search needs
+
+returns-2 : tie.Need-returns-2
+unfolding begunAt
+returns-2 c = rw (eq-eqb _ _ (c .before .if1 .left), lt-ltb _ _ (c .if2 .taken))
+
+returns-3 : tie.Need-returns-3
+unfolding begunAt
+returns-3 c = rw (eq-eqb _ _ (c .before .if1 .left), le-ltb _ _ (c .if2 .left))
+
+pub begin-spec : {M : Type 1} → statement M
+begin-spec = tie.close (tie.spec returns add-result returns-2 returns-3)

@@ -1,0 +1,20 @@
+-- `places::slot_of` meets its contract. Assumes nothing.
+use borrow.Author.Tests.{eq-eqb, ne-eqb}
+use Rattle.places.specs.Kept.{slotFor}
+use Rattle.places.proofs.slot_of.Statement.{statement}
+use Rattle.places.proofs.slot_of.Tie as tie
+
+returns : tie.Need-returns
+unfolding slotFor
+returns c = rw (eq-eqb _ _ (c .if1 .taken))
+
+returns-2 : tie.Need-returns-2
+unfolding slotFor
+returns-2 c = rw (ne-eqb _ _ (c .before .if1 .left), eq-eqb _ _ (c .if2 .taken))
+
+returns-3 : tie.Need-returns-3
+unfolding slotFor
+returns-3 c = rw (ne-eqb _ _ (c .before .if1 .left), ne-eqb _ _ (c .if2 .left))
+
+pub slot-of-spec : {M : Type 1} → statement M
+slot-of-spec = tie.close (tie.spec returns returns-2 returns-3)
