@@ -50,9 +50,12 @@ pub record Fit (w f : List ℕ) : Type 0 where
 
 -- an amount's text is such parts with a comma between them, and is nothing else
 module _ (s : List ℕ) (e : isAmount s ≡ true) where
-  pub amount-split : s ≡ whole s ++ 44 ∷ decimals s
+  pub amount-comma : length (whole s) < length s
   unfolding isAmount
-  amount-split = split s (ltb-true _ _ (and-left _ _ (and-right (leb (length s) 15) _ e)))
+  amount-comma = ltb-true _ _ (and-left _ _ (and-right (leb (length s) 15) _ e))
+
+  pub amount-split : s ≡ whole s ++ 44 ∷ decimals s
+  amount-split = split s amount-comma
 
   pub amount-fit : Fit (whole s) (decimals s)
   unfolding isAmount

@@ -2,3 +2,4 @@ pub mod Trims
 pub mod Laws
 pub mod Noughts
 pub mod Cases
+pub mod Shortening

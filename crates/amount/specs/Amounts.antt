@@ -12,6 +12,7 @@ use Rattle.digits.specs.Numerals.{numeral, digits}
 use Rattle.amount.specs.declared.Amount.{Amount}
 use Rattle.amount.specs.declared.AmountRead.{AmountRead}
 use Rattle.amount.specs.declared.AmountRead.the-variants.{Good, Wrong}
+use Rattle.amount.specs.declared.Trim.{Trim}
 
 -- ---- the text of an amount
 
@@ -91,6 +92,14 @@ most = record { number = 99999999999999; decimals = 0 }
 unfoldable pub noughts : List ℕ → ℕ
 noughts [] = 0
 noughts (b ∷ s) = cond (eqb b 48) (suc (noughts s)) 0
+
+-- from where to where the shortest text stands in a text: behind the noughts before the last whole digit, and up to what is left of the
+-- decimals. Of a text without a comma nothing goes
+unfoldable pub shortestOf : List ℕ → Trim
+shortestOf s =
+    cond (ltb (length (whole s)) (length s))
+    (record { from = noughts (take (length (whole s) - 1) (whole s)); to = length (whole s) + 1 + length (shortened (decimals s)) })
+    (record { from = 0; to = length s })
 
 -- ---- a step of the code
 

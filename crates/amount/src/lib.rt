@@ -5,9 +5,9 @@
 use digits::Number;
 ghost use mathlib.Core.Path.{_≡_};
 ghost use Prim.Native.Nat.{_-_, _^_, _≤_, _<_};
-ghost use lib.ListN.{length};
+ghost use lib.ListN.{length, take};
 ghost use Rattle.text.specs.Copy.{placed, after};
-ghost use Rattle.amount.specs.Amounts.{shortened, noughts, partsRead, amountRead, amountNumber, inForm, spread, amountText, nought, most};
+ghost use Rattle.amount.specs.Amounts.{shortened, noughts, partsRead, amountRead, amountNumber, inForm, spread, amountText, nought, most, shortestOf};
 
 // The digits of an amount as one whole number, and how many of them are decimals.
 pub struct Amount {
@@ -58,6 +58,39 @@ pub fn leading(part: &[u8]) -> usize
         i += 1;
     }
     i
+}
+
+// From where to where the shortest text of an amount stands in its text.
+pub struct Trim {
+    pub from: usize,
+    pub to: usize,
+}
+
+// How many noughts stand in front of the last byte.
+fn needless(whole: &[u8]) -> usize
+    ensures { λ r. ⌜ r ≡ noughts (take (length (now (whole .entry)) - 1) (now (whole .entry))) ⌝ }
+{
+    let n = whole.len();
+    if n == 0 {
+        return 0;
+    }
+    leading(&whole[..n - 1])
+}
+
+// The part of an amount's text that is its shortest text; of a text without a comma, all of it.
+pub fn shortest(part: &[u8]) -> Trim
+    ensures { λ r. ⌜ r ≡ shortestOf (now (part .entry)) ⌝ }
+{
+    let cut = text::find(part, b',');
+    if part.len() == cut {
+        return Trim { from: 0, to: cut };
+    }
+    let from = needless(&part[..cut]);
+    let kept = lasting(&part[cut + 1..]);
+    Trim {
+        from,
+        to: cut + 1 + kept,
+    }
 }
 
 // The amount that the number of a whole part and decimals mean, where these are digits. The noughts at their end are digits, so

@@ -20,3 +20,4 @@ pub mod Asking
 pub mod Batch
 pub mod Specimen
 pub mod Cases
+pub mod Lent

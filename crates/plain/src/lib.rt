@@ -1,8 +1,16 @@
 // The plain form of a message, asked for into a buffer that the caller lends.
 //
 // What is right stands in specs/Asking.
+use amount::Trim;
+use walk::Body;
 ghost use mathlib.Core.Path.{_≡_};
-ghost use lib.ListN.{length};
+ghost use Prim.Native.Nat.{_+_, _≤_, _<_};
+ghost use lib.ListN.{length, getD, set};
+ghost use Rattle.text.specs.Copy.{placed, after};
+ghost use Rattle.amount.specs.Amounts.{shortestOf};
+ghost use Rattle.stretches.specs.Stretches.{between, stretchOf};
+ghost use Rattle.message.specs.Plain.{plainOf};
+ghost use Rattle.mt515.specs.Reading.{verdictOf, placesOf};
 ghost use Rattle.plain.specs.Asking.{askingOf, askedOver};
 
 // What asking for a plain form answers: 0 and the length of the plain form, or the number and line of the refusal and 0.
@@ -12,22 +20,76 @@ pub struct Asking {
     pub length: usize,
 }
 
-// Writes the plain form of a message into a lent buffer: the message is read, and the record of an accepted one written.
+// From where to where the shortest text of an amount stands in a message, by the places of the amount.
+fn within(message: &[u8], start: usize, end: usize) -> Trim
+    ensures { λ r. ⌜ r ≡ record { from = start + shortestOf (between (now (message .entry)) start end) .from; to = start + shortestOf (between (now (message .entry)) start end) .to } ⌝ }
+{
+    let part = amount::shortest(stretches::part(message, start, end));
+    Trim {
+        from: start + part.from,
+        to: start + part.to,
+    }
+}
+
+// Moves the places of a slot in to the shortest text of the amount that stands there.
+fn move_in(message: &[u8], starts: &mut [usize], ends: &mut [usize], slot: usize)
+    requires { ⌜ (slot < length (now starts)) × (slot < length (now ends)) ⌝ }
+    ensures { λ _. ⌜ (now (starts .exit) ≡ set (now (starts .entry)) slot (getD (now (starts .entry)) slot 0 + shortestOf (stretchOf (now (message .entry)) (now (starts .entry)) (now (ends .entry)) slot) .from)) × (now (ends .exit) ≡ set (now (ends .entry)) slot (getD (now (starts .entry)) slot 0 + shortestOf (stretchOf (now (message .entry)) (now (starts .entry)) (now (ends .entry)) slot) .to)) ⌝ }
+{
+    let part = within(message, starts[slot], ends[slot]);
+    stretches::keep(starts, slot, part.from);
+    stretches::keep(ends, slot, part.to);
+}
+
+// The plain form of an accepted message, into a buffer that has room for it. It is put from the message's own stretches, of which the
+// price's and the par's are moved in, with the bytes of the header, the table and the slots.
+fn compose(buf: &mut [u8], message: &[u8], body: Body) -> usize
+    requires { ⌜ (body ≡ placesOf (now message)) × (verdictOf (now message) .number ≡ 0) × (length (plainOf (now message)) ≤ length (now buf)) ⌝ }
+    ensures { λ r. ⌜ (r ≡ after (now (buf .entry)) 0 (plainOf (now (message .entry)))) × (now (buf .exit) ≡ placed (now (buf .entry)) 0 (plainOf (now (message .entry)))) ⌝ }
+{
+    let mut starts = body.starts;
+    let mut ends = body.ends;
+    move_in(message, &mut starts, &mut ends, 9);
+    move_in(message, &mut starts, &mut ends, 18);
+    writer::put_message(
+        buf,
+        &table::HEADER,
+        &table::TABLE,
+        &table::SLOTS,
+        &values::OPTIONAL,
+        message,
+        &starts,
+        &ends,
+    )
+}
+
+// Writes the plain form of a message into a lent buffer: the message is read, and the plain form of an accepted one composed elsewhere,
+// so that a refusal changes no byte.
 pub fn plain(message: &[u8], buf: &mut [u8]) -> Asking
     ensures { λ r. ⌜ (r ≡ askingOf (now (message .entry)) (length (now (buf .entry)))) × (now (buf .exit) ≡ askedOver (now (message .entry)) (now (buf .entry))) ⌝ }
 {
-    let reading = mt515::read(message);
-    if reading.number != 0 {
+    let body = mt515::places(message);
+    let verdict = body.verdict;
+    if verdict.number != 0 {
         return Asking {
-            number: reading.number,
-            line: reading.line,
+            number: verdict.number,
+            line: verdict.line,
             length: 0,
         };
     }
-    let writing = message::write(reading.trade, buf);
+    let mut out = [0u8; 822];
+    let length = compose(&mut out, message, body);
+    if buf.len() < length {
+        return Asking {
+            number: 19,
+            line: 0,
+            length: 0,
+        };
+    }
+    text::put(buf, 0, &out[..length]);
     Asking {
-        number: writing.number,
+        number: 0,
         line: 0,
-        length: writing.length,
+        length,
     }
 }
