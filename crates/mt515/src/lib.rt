@@ -150,8 +150,8 @@ pub fn places(message: &[u8]) -> Body
     let mut starts = [0usize; stretches::SLOTS];
     let mut ends = [0usize; stretches::SLOTS];
     let width = table::glance(message, &mut starts, &mut ends);
-    if let Width::Is(n) = width {
-        if n == message.len() {
+    if let Width::Is(length) = width {
+        if length == message.len() {
             let reading = judge(message, &starts, &ends);
             return kept(
                 reading,
