@@ -10,8 +10,8 @@ use Rattle.message.specs.Writing.{writingOf}
 use Rattle.message.specs.declared.Writing.{Writing}
 use Rattle.field.specs.Field.{placeOf}
 use Rattle.field.specs.declared.Stretch.{Stretch}
-use Rattle.places.specs.Places.{placesOf}
-use Rattle.places.specs.declared.Stretches.{Stretches}
+use Rattle.outline.specs.Outline.{outlineOf}
+use Rattle.outline.specs.declared.Outline.{Outline}
 use Rattle.plain.specs.Asking.{askingOf}
 use Rattle.plain.specs.declared.Asking.{Asking}
 use Rattle.batch.specs.Batch.{nextOf}
@@ -25,8 +25,8 @@ pub field-byte : (m : List ℕ) (slot : ℕ) (a : Stretch) → a ≡ placeOf m s
 unfolding placeOf
 field-byte m slot a e = subst (λ b. b .number < 256) (sym e) (let h = numbers .read m in omega (arith, h))
 
-pub places-byte : (m : List ℕ) (a : Stretches) → a ≡ placesOf m → a .number < 256
-unfolding placesOf
+pub places-byte : (m : List ℕ) (a : Outline) → a ≡ outlineOf m → a .number < 256
+unfolding outlineOf
 places-byte m a e = subst (λ b. b .number < 256) (sym e) (let h = numbers .read m in omega (arith, h))
 
 pub plain-byte : (m : List ℕ) (room : ℕ) (a : Asking) → a ≡ askingOf m room → a .number < 256

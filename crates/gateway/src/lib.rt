@@ -11,7 +11,7 @@ ghost use Rattle.packed.specs.Packed.{packedOf};
 ghost use Rattle.unpacked.specs.Unpacked.{unpackedOf};
 ghost use Rattle.batch.specs.Batch.{nextOf};
 ghost use Rattle.field.specs.Field.{placeOf};
-ghost use Rattle.places.specs.Places.{placesOf};
+ghost use Rattle.outline.specs.Outline.{outlineOf};
 ghost use Rattle.plain.specs.Asking.{askingOf, askedOver};
 ghost use Rattle.gateway.specs.Numbers.{turnNumber};
 
@@ -50,15 +50,15 @@ pub extern "C" fn mt515_places(
     ends: &mut [usize; 24],
     line: &mut usize,
 ) -> u8
-    ensures { λ r. ⌜ (r ≡ placesOf (now (message .entry)) .number) × (now (starts .exit) ≡ placesOf (now (message .entry)) .starts) × (now (ends .exit) ≡ placesOf (now (message .entry)) .ends) × (now (line .exit) ≡ placesOf (now (message .entry)) .line) ⌝ }
+    ensures { λ r. ⌜ (r ≡ outlineOf (now (message .entry)) .number) × (now (starts .exit) ≡ outlineOf (now (message .entry)) .starts) × (now (ends .exit) ≡ outlineOf (now (message .entry)) .ends) × (now (line .exit) ≡ outlineOf (now (message .entry)) .line) ⌝ }
 {
-    let places = places::places(message);
-    let begun = places.starts;
-    let ended = places.ends;
+    let all = outline::of(message);
+    let begun = all.starts;
+    let ended = all.ends;
     *starts = begun;
     *ends = ended;
-    *line = places.line;
-    places.number as u8
+    *line = all.line;
+    all.number as u8
 }
 
 // Writes the plain form of a message into a lent buffer.

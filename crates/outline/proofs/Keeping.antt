@@ -53,10 +53,10 @@ use Rattle.field.specs.Field.{placeOf}
 use Rattle.field.proofs.Values as Values
 use Rattle.field.proofs.Finding.{finding}
 use Rattle.field.proofs.Steps.{is-named}
-use Rattle.places.specs.Places.{fields, lineStart, lineEnd, startIn, endIn, placesOf}
-use Rattle.places.specs.Kept.{slotFor, begunAt, startKept, endKept, startsIn, endsIn}
-use Rattle.places.proofs.Loop.{slot-below}
-use Rattle.places.proofs.Sheets.{starts-none, ends-none, starts-one, ends-one, taken-good, head-starts-none, head-ends-none}
+use Rattle.outline.specs.Outline.{fields, lineStart, lineEnd, startIn, endIn, outlineOf}
+use Rattle.outline.specs.Kept.{slotFor, begunAt, startKept, endKept, startsIn, endsIn}
+use Rattle.outline.proofs.Loop.{slot-below}
+use Rattle.outline.proofs.Sheets.{starts-none, ends-none, starts-one, ends-one, taken-good, head-starts-none, head-ends-none}
 
 -- ---- rules that agree on each field give the same list
 
@@ -318,18 +318,18 @@ module _ (m : List ℕ) (z : Mt.verdictOf m .number ≡ 0 → ⊥) where
 
 -- ---- what is handed out is right
 
-module _ (m : List ℕ) (b : Body) (is : b ≡ Mt.placesOf m) where
+module _ (m : List ℕ) (b : Body) (is : b ≡ Mt.keptOf m) where
   abbrev Handed : Type 0
-  Handed = record { number = b .verdict .number; line = b .verdict .line; starts = startsIn (b .starts) (b .ends); ends = endsIn (b .ends) } ≡ placesOf m
+  Handed = record { number = b .verdict .number; line = b .verdict .line; starts = startsIn (b .starts) (b .ends); ends = endsIn (b .ends) } ≡ outlineOf m
 
   accepted-handed : Mt.verdictOf m .number ≡ 0 → Handed
-  unfolding Mt.placesOf Mt.readOf Any.readOf Any.reading placesOf startsIn endsIn pass refused
+  unfolding Mt.keptOf Mt.readOf Any.readOf Any.reading outlineOf startsIn endsIn pass refused
   accepted-handed z =
       let k : b ≡ record { verdict = pass; starts = keptStarts m z; ends = keptEnds m z } = is ∙ rw z (body-is m z) in
       rw (k, z, accepted-line mt515 layout laws m z, same-fields _ (startIn m) (λ f h. both m z f h .0), same-fields _ (endIn m) (λ f h. both m z f h .1))
 
   refused-handed : (Mt.verdictOf m .number ≡ 0 → ⊥) → Handed
-  unfolding Mt.placesOf Mt.readOf Any.readOf Any.reading placesOf startsIn endsIn placeless
+  unfolding Mt.keptOf Mt.readOf Any.readOf Any.reading outlineOf startsIn endsIn placeless
   refused-handed z =
       let k : b ≡ placeless (Mt.verdictOf m) = is ∙ rw (ne-eqb (Mt.verdictOf m .number) 0 z) in
       rw (k, same-fields _ (startIn m) (λ f h. nothing m z f h .0), same-fields _ (endIn m) (λ f h. nothing m z f h .1))

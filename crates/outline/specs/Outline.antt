@@ -9,7 +9,7 @@ use lib.Dec.{eqb}
 use Rattle.lines.specs.Lines.{startBehind, endOf}
 use Rattle.mt515.specs.Reading.{readOf}
 use Rattle.field.specs.Field.{placeOf}
-use Rattle.places.specs.declared.Stretches.{Stretches}
+use Rattle.outline.specs.declared.Outline.{Outline}
 
 abbrev pub passwordField : ℕ
 passwordField = 22
@@ -34,5 +34,5 @@ startIn m f = cond (eqb f passwordField) (lineStart m 0) (cond (eqb f senderFiel
 unfoldable pub endIn : List ℕ → ℕ → ℕ
 endIn m f = cond (eqb f passwordField) (lineEnd m 0) (cond (eqb f senderField) (lineEnd m 1) (placeOf m f .offset + placeOf m f .count))
 
-unfoldable pub placesOf : List ℕ → Stretches
-placesOf m = record { number = readOf m .number; line = readOf m .line; starts = map (startIn m) fields; ends = map (endIn m) fields }
+unfoldable pub outlineOf : List ℕ → Outline
+outlineOf m = record { number = readOf m .number; line = readOf m .line; starts = map (startIn m) fields; ends = map (endIn m) fields }

@@ -3,8 +3,8 @@
 // What is right stands in specs/Places.
 use lines::Verdict;
 ghost use mathlib.Core.Path.{_≡_};
-ghost use Rattle.places.specs.Places.{placesOf};
-ghost use Rattle.places.specs.Kept.{slotFor, begunAt, startsIn, endsIn};
+ghost use Rattle.outline.specs.Outline.{outlineOf};
+ghost use Rattle.outline.specs.Kept.{slotFor, begunAt, startsIn, endsIn};
 
 // The fields are numbered below this: the slots 1 to 21, the password and the sender.
 pub const FIELDS: usize = 24;
@@ -19,7 +19,7 @@ const PASSWORD_SLOT: usize = 28;
 const SENDER_SLOT: usize = 29;
 
 // What the caller gets back of a message: the number and line of its reading, and of each field where it begins and ends.
-pub struct Stretches {
+pub struct Outline {
     pub number: u64,
     pub line: usize,
     pub starts: [usize; FIELDS],
@@ -54,7 +54,7 @@ fn hand_out<'a>(
     verdict: Verdict,
     begun: &'a [usize; stretches::SLOTS],
     ended: &'a [usize; stretches::SLOTS],
-) -> Stretches
+) -> Outline
     ensures { λ r. ⌜ r ≡ record { number = verdict .number; line = verdict .line; starts = startsIn (now (begun .entry)) (now (ended .entry)); ends = endsIn (now (ended .entry)) } ⌝ }
 {
     let mut starts = [0usize; FIELDS];
@@ -67,7 +67,7 @@ fn hand_out<'a>(
         ends[field] = end;
         field += 1;
     }
-    Stretches {
+    Outline {
         number: verdict.number,
         line: verdict.line,
         starts,
@@ -76,10 +76,10 @@ fn hand_out<'a>(
 }
 
 // Where all fields of a message stand.
-pub fn places(message: &[u8]) -> Stretches
-    ensures { λ r. ⌜ r ≡ placesOf (now (message .entry)) ⌝ }
+pub fn of(message: &[u8]) -> Outline
+    ensures { λ r. ⌜ r ≡ outlineOf (now (message .entry)) ⌝ }
 {
-    let body = mt515::places(message);
+    let body = mt515::kept(message);
     let starts = body.starts;
     let ends = body.ends;
     hand_out(body.verdict, &starts, &ends)

@@ -1,9 +1,9 @@
--- `places::begin` meets its contract. Assumes nothing.
+-- `outline::begin` meets its contract. Assumes nothing.
 use borrow.Author.Needs.{needs}
 use borrow.Author.Tests.{eq-eqb, ne-eqb, lt-ltb, le-ltb}
-use Rattle.places.specs.Kept.{begunAt}
-use Rattle.places.proofs.begin.Statement.{statement}
-use Rattle.places.proofs.begin.Tie as tie
+use Rattle.outline.specs.Kept.{begunAt}
+use Rattle.outline.proofs.begin.Statement.{statement}
+use Rattle.outline.proofs.begin.Tie as tie
 
 returns : tie.Need-returns
 unfolding begunAt

@@ -5,7 +5,7 @@ use mathlib.Core.List.{List, map}
 use lib.Dec.{eqb, ltb}
 use lib.ListN.{getD}
 use Rattle.trade.specs.Records.{narrativeSlot, passwordSlot, senderSlot}
-use Rattle.places.specs.Places.{passwordField, senderField, fields}
+use Rattle.outline.specs.Outline.{passwordField, senderField, fields}
 
 unfoldable pub slotFor : ℕ → ℕ
 slotFor f = cond (eqb f passwordField) passwordSlot (cond (eqb f senderField) senderSlot f)

@@ -1,13 +1,13 @@
--- `places::hand_out` meets its contract. The loop's invariant: up to the field both lists are as they should be. Assumes nothing.
+-- `outline::hand_out` meets its contract. The loop's invariant: up to the field both lists are as they should be. Assumes nothing.
 use Prim.Native.Nat.{ℕ, _-_}
 use native.Mathlib.Omega.{arith}
 use lib.ListN.{length-replicate}
 use borrow.Author.Needs.{needs}
 use denote.Ref.{now}
-use Rattle.places.specs.Kept.{startKept, endKept, startsIn, endsIn}
-use Rattle.places.proofs.Loop.{Put, slot-in, start-of, end-of, none-put, one-put, all-put}
-use Rattle.places.proofs.hand_out.Statement.{statement}
-use Rattle.places.proofs.hand_out.Tie as tie
+use Rattle.outline.specs.Kept.{startKept, endKept, startsIn, endsIn}
+use Rattle.outline.proofs.Loop.{Put, slot-in, start-of, end-of, none-put, one-put, all-put}
+use Rattle.outline.proofs.hand_out.Statement.{statement}
+use Rattle.outline.proofs.hand_out.Tie as tie
 
 abbrev Inv-loop : tie.InvT-loop
 Inv-loop verdict begun ended starts₀ ends₀ field₀ starts ends field = Put (startKept begun ended) starts field × Put (endKept ended) ends field

@@ -9,7 +9,7 @@ use Rattle.trade.specs.Records.{passwordSlot, senderSlot}
 use Rattle.table.specs.Table.{lastField}
 use Rattle.demands.specs.Demands.{saidIn, Lawful}
 use Rattle.field.specs.Field.{fieldOf}
-use Rattle.places.specs.Places.{passwordField, senderField, startIn, endIn}
+use Rattle.outline.specs.Outline.{passwordField, senderField, startIn, endIn}
 
 abbrev pub standing : List ℕ → ℕ → List ℕ
 standing m f = between m (startIn m f) (endIn m f)

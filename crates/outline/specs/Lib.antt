@@ -1,3 +1,3 @@
-pub mod Places
+pub mod Outline
 pub mod Kept
 pub mod Standing

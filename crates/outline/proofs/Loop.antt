@@ -10,8 +10,8 @@ use lib.ListN.{length, take, getD, set, length-set}
 use lib.Seq.{take-all, take-suc, take-suc-set}
 use borrow.Author.Tests.{eqb-true, ltb-true}
 use Rattle.format.proofs.Tests.{allBelow, all-at}
-use Rattle.places.specs.Places.{fields}
-use Rattle.places.specs.Kept.{slotFor, begunAt, startKept, endKept}
+use Rattle.outline.specs.Outline.{fields}
+use Rattle.outline.specs.Kept.{slotFor, begunAt, startKept, endKept}
 
 -- ---- the fields by their numbers
 

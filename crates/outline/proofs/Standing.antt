@@ -25,8 +25,8 @@ use Rattle.demands.proofs.Demands.{demands}
 use Rattle.mt515.specs.Reading.{readOf}
 use Rattle.field.specs.Field.{fieldOf}
 use Rattle.field.proofs.Finding.{finding}
-use Rattle.places.specs.Places.{lineStart, lineEnd, startIn, endIn}
-use Rattle.places.specs.Standing.{standing, Standing}
+use Rattle.outline.specs.Outline.{lineStart, lineEnd, startIn, endIn}
+use Rattle.outline.specs.Standing.{standing, Standing}
 
 part-between : (m : List ℕ) (from count : ℕ) → from + count ≤ length m → between m from (from + count) ≡ take count (drop from m)
 unfolding between

@@ -1,8 +1,8 @@
--- `places::slot_of` meets its contract. Assumes nothing.
+-- `outline::slot_of` meets its contract. Assumes nothing.
 use borrow.Author.Tests.{eq-eqb, ne-eqb}
-use Rattle.places.specs.Kept.{slotFor}
-use Rattle.places.proofs.slot_of.Statement.{statement}
-use Rattle.places.proofs.slot_of.Tie as tie
+use Rattle.outline.specs.Kept.{slotFor}
+use Rattle.outline.proofs.slot_of.Statement.{statement}
+use Rattle.outline.proofs.slot_of.Tie as tie
 
 returns : tie.Need-returns
 unfolding slotFor
