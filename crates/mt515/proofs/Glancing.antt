@@ -2,16 +2,14 @@
 -- Assumes nothing.
 use Prim.Native.Nat.{ℕ, _+_, _≤_}
 use mathlib.Core.Path.{_≡_, refl, sym, ap, _∙_}
-use mathlib.Core.Bool.{Bool, true, false, cond}
+use mathlib.Core.Bool.{cond}
 use mathlib.Core.List.{List}
 use native.Mathlib.Nat.{sub-zero}
 use native.Mathlib.Omega.{arith}
 use lib.Dec.{eqb}
 use lib.ListN.{length, take, drop, replicate}
 use lib.Seq.{length-take-le, take-all}
-use borrow.Author.Tests.{eqb-true}
 use Rattle.lines.specs.Verdicts.{pass, refused}
-use Rattle.lines.specs.declared.Verdict.{Verdict}
 use Rattle.stretches.specs.Stretches.{slotCount, stretchOf}
 use Rattle.pieces.specs.Pieces.{pieceOf}
 use Rattle.pieces.proofs.Laws.{piece-within, stretch-is}
@@ -29,7 +27,7 @@ use Rattle.table.specs.Tree.{tree}
 use Rattle.table.proofs.Laws.{slots-clean}
 use Rattle.values.specs.Mt515.{mt515}
 use Rattle.values.proofs.Laid.{layout}
-use Rattle.mt515.specs.Reading.{judged, verdictOf, readOf, frontOf, placesOf}
+use Rattle.mt515.specs.Reading.{judged, verdictOf, readOf, frontOf, keptOf}
 use Rattle.mt515.specs.declared.Reading.{Reading}
 use Rattle.mt515.proofs.Chain.{judged-is}
 
@@ -50,10 +48,10 @@ module _ (s starts ends : List ℕ) (w : Width) (n : ℕ) (is : w ≡ Is n) (t :
   judged-front = judged-is (take n s) (record { verdict = pass; starts = starts; ends = ends }) (sym (glance-takes mt515 layout s starts ends n glanced .0)) refl
 
   -- a message that is taken whole
-  pub glanced-whole : n ≡ length s → judged (stretchOf s starts ends) ≡ readOf s
-  glanced-whole e =
+  pub glanced-body : n ≡ length s → record { verdict = pass; starts = starts; ends = ends } ≡ takeOf (tableOf tree) slotOf header s
+  glanced-body e =
       let l : length s ≤ n = omega arith in
-      rw (take-all n s l) at judged-front
+      sym (rw (take-all n s l) at (glance-takes mt515 layout s starts ends n glanced .0))
 
   -- the piece at the front
   pub glanced-front : (r : Reading) → r ≡ judged (stretchOf (take n s) starts ends) → record { reading = r; length = n } ≡ frontOf s
@@ -78,21 +76,10 @@ module _ (s : List ℕ) (end : ℕ) (is : end ≡ 0 + length (pieceOf (drop 0 s)
 -- ---- the places
 
 -- what was taken of a message, by how it is read
-pub kept-is : (m : List ℕ) (r : Reading) (b : Body) → r ≡ readOf m → (r .number ≡ 0 → b ≡ takeOf (tableOf tree) slotOf header m)
-    → cond (eqb (r .number) 0) b (placeless (record { number = r .number; line = r .line })) ≡ placesOf m
-unfolding placesOf readOf Any.readOf Any.reading
+pub kept-is : (m : List ℕ) (r : Reading) (b : Body) → r ≡ readOf m → b ≡ takeOf (tableOf tree) slotOf header m
+    → cond (eqb (r .number) 0) b (placeless (record { number = r .number; line = r .line })) ≡ keptOf m
+unfolding keptOf readOf Any.readOf Any.reading
 kept-is m r b e t =
     let n : r .number ≡ verdictOf m .number = ap (λ (x : Reading). x .number) e in
     let l : r .line ≡ verdictOf m .line = ap (λ (x : Reading). x .line) e in
-    rw (← n, ← l) (on (eqb (r .number) 0) refl)
-  where
-    on : (x : Bool) → eqb (r .number) 0 ≡ x
-        → cond x b (placeless (record { number = r .number; line = r .line })) ≡ cond x (takeOf (tableOf tree) slotOf header m) (placeless (record { number = r .number; line = r .line }))
-    on true q = t (eqb-true (r .number) 0 q)
-    on false q = refl
-
-module _ (s starts ends : List ℕ) (w : Width) (n : ℕ) (is : w ≡ Is n) (t : Told s starts ends w) where
-  pub glanced-body : n ≡ length s → record { verdict = pass; starts = starts; ends = ends } ≡ takeOf (tableOf tree) slotOf header s
-  glanced-body e =
-      let l : length s ≤ n = omega arith in
-      sym (rw (take-all n s l) at (glance-takes mt515 layout s starts ends n (glanced s starts ends w n is t) .0))
+    rw (← n, ← l, t)

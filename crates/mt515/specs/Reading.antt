@@ -38,5 +38,5 @@ unfoldable pub frontOf : List ℕ → Front
 frontOf s = record { reading = readOf (pieceOf s); length = length (pieceOf s) }
 
 -- where the values of an accepted message stand, as the passes keep them; a refusal keeps no places
-unfoldable pub placesOf : List ℕ → Body
-placesOf m = let v = verdictOf m in cond (eqb (v .number) 0) (takeOf (tableOf tree) slotOf header m) (placeless v)
+unfoldable pub keptOf : List ℕ → Body
+keptOf m = let v = verdictOf m in cond (eqb (v .number) 0) (takeOf (tableOf tree) slotOf header m) (placeless v)

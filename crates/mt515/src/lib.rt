@@ -6,12 +6,14 @@ use measure::Width;
 use trade::Trade;
 use walk::Body;
 ghost use mathlib.Core.Path.{_≡_};
-ghost use mathlib.Core.Bool.{cond};
-ghost use lib.Dec.{eqb};
+ghost use lib.ListN.{replicate};
 ghost use Rattle.trade.specs.Records.{blankTrade};
-ghost use Rattle.stretches.specs.Stretches.{stretchOf};
-ghost use Rattle.reader.specs.Take.{placeless};
-ghost use Rattle.mt515.specs.Reading.{judged, readOf, frontOf, placesOf};
+ghost use Rattle.stretches.specs.Stretches.{slotCount, stretchOf};
+ghost use Rattle.sheets.specs.Trees.{tableOf};
+ghost use Rattle.reader.specs.Take.{takeOf};
+ghost use Rattle.table.specs.Table.{header, slotOf};
+ghost use Rattle.table.specs.Tree.{tree};
+ghost use Rattle.mt515.specs.Reading.{judged, readOf, frontOf, keptOf};
 
 // What the desk gets back of a message: 0 and the record, or a number and a line with the blank record beside them.
 pub struct Reading {
@@ -56,47 +58,56 @@ fn judge<'a, 'b>(
     }
 }
 
-// Reads a message by the passes in their order.
-fn read_by_passes(message: &[u8]) -> Reading
+// Takes a message into places that are all 0: at one look where that takes all of it, and else by the passes in their order.
+fn take(
+    message: &[u8],
+    starts: &mut [usize; stretches::SLOTS],
+    ends: &mut [usize; stretches::SLOTS],
+) -> Verdict
+    requires { ⌜ (now starts ≡ replicate slotCount 0) × (now ends ≡ replicate slotCount 0) ⌝ }
+    ensures { λ r. ⌜ record { verdict = r; starts = now (starts .exit); ends = now (ends .exit) } ≡ takeOf (tableOf tree) slotOf header (now (message .entry)) ⌝ }
+{
+    let width = table::glance(message, starts, ends);
+    if let Width::Is(n) = width {
+        if n == message.len() {
+            return Verdict::PASS;
+        }
+    }
+    let body = table::take(message);
+    let begun = body.starts;
+    let ended = body.ends;
+    *starts = begun;
+    *ends = ended;
+    body.verdict
+}
+
+// Reads a message by what was taken of it.
+fn read_taken<'a, 'b>(
+    message: &'a [u8],
+    verdict: Verdict,
+    starts: &'b [usize; stretches::SLOTS],
+    ends: &'b [usize; stretches::SLOTS],
+) -> Reading
+    requires { ⌜ record { verdict = verdict; starts = now starts; ends = now ends } ≡ takeOf (tableOf tree) slotOf header (now message) ⌝ }
     ensures { λ r. ⌜ r ≡ readOf (now (message .entry)) ⌝ }
 {
-    let body = table::take(message);
-    let verdict = body.verdict;
     if verdict.number != 0 {
         return refuse(verdict);
     }
-    let starts = body.starts;
-    let ends = body.ends;
-    judge(message, &starts, &ends)
+    judge(message, starts, ends)
 }
 
-// Reads the piece at the front of a text by the passes in their order.
-fn front_by_passes(text: &[u8]) -> Front
-    ensures { λ r. ⌜ r ≡ frontOf (now (text .entry)) ⌝ }
-{
-    let end = pieces::piece_end(text, 0);
-    Front {
-        reading: read_by_passes(&text[..end]),
-        length: end,
-    }
-}
-
-// Reads a message: at one look where that takes all of it, and else by the passes.
+// Reads a message.
 pub fn read(message: &[u8]) -> Reading
     ensures { λ r. ⌜ r ≡ readOf (now (message .entry)) ⌝ }
 {
     let mut starts = [0usize; stretches::SLOTS];
     let mut ends = [0usize; stretches::SLOTS];
-    let width = table::glance(message, &mut starts, &mut ends);
-    if let Width::Is(n) = width {
-        if n == message.len() {
-            return judge(message, &starts, &ends);
-        }
-    }
-    read_by_passes(message)
+    let verdict = take(message, &mut starts, &mut ends);
+    read_taken(message, verdict, &starts, &ends)
 }
 
-// Reads the piece at the front of a text: at one look where that takes it, and else by the passes.
+// Reads the piece at the front of a text: at one look where that takes it, and else it is cut and goes by the passes.
 pub fn read_front(text: &[u8]) -> Front
     ensures { λ r. ⌜ r ≡ frontOf (now (text .entry)) ⌝ }
 {
@@ -109,15 +120,31 @@ pub fn read_front(text: &[u8]) -> Front
             length: n,
         };
     }
-    front_by_passes(text)
+    let end = pieces::piece_end(text, 0);
+    let piece = &text[..end];
+    let body = table::take(piece);
+    let begun = body.starts;
+    let ended = body.ends;
+    Front {
+        reading: read_taken(piece, body.verdict, &begun, &ended),
+        length: end,
+    }
 }
 
-// What was taken of an accepted message; beside a refusal there are no places.
-fn kept(reading: Reading, body: Body) -> Body
-    ensures { λ r. ⌜ r ≡ cond (eqb (reading .number) 0) body (placeless (record { number = reading .number; line = reading .line })) ⌝ }
+// Where the values of an accepted message stand, with the number and line of its reading; a refusal keeps no places.
+pub fn kept(message: &[u8]) -> Body
+    ensures { λ r. ⌜ r ≡ keptOf (now (message .entry)) ⌝ }
 {
+    let mut starts = [0usize; stretches::SLOTS];
+    let mut ends = [0usize; stretches::SLOTS];
+    let verdict = take(message, &mut starts, &mut ends);
+    let reading = read_taken(message, verdict, &starts, &ends);
     if reading.number == 0 {
-        return body;
+        return Body {
+            verdict,
+            starts,
+            ends,
+        };
     }
     Body {
         verdict: Verdict {
@@ -127,41 +154,4 @@ fn kept(reading: Reading, body: Body) -> Body
         starts: [0usize; stretches::SLOTS],
         ends: [0usize; stretches::SLOTS],
     }
-}
-
-// Where the values of a message stand, by the passes in their order.
-fn places_by_passes(message: &[u8]) -> Body
-    ensures { λ r. ⌜ r ≡ placesOf (now (message .entry)) ⌝ }
-{
-    let body = table::take(message);
-    let verdict = body.verdict;
-    if verdict.number != 0 {
-        return kept(refuse(verdict), body);
-    }
-    let starts = body.starts;
-    let ends = body.ends;
-    kept(judge(message, &starts, &ends), body)
-}
-
-// Where the values of an accepted message stand, with the number and line of its reading; a refusal keeps no places.
-pub fn places(message: &[u8]) -> Body
-    ensures { λ r. ⌜ r ≡ placesOf (now (message .entry)) ⌝ }
-{
-    let mut starts = [0usize; stretches::SLOTS];
-    let mut ends = [0usize; stretches::SLOTS];
-    let width = table::glance(message, &mut starts, &mut ends);
-    if let Width::Is(length) = width {
-        if length == message.len() {
-            let reading = judge(message, &starts, &ends);
-            return kept(
-                reading,
-                Body {
-                    verdict: Verdict::PASS,
-                    starts,
-                    ends,
-                },
-            );
-        }
-    }
-    places_by_passes(message)
 }

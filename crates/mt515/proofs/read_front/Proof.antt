@@ -1,7 +1,7 @@
--- `mt515::read_front` meets its contract: what a glance takes is judged, and all else goes by the passes. Assumes nothing.
+-- `mt515::read_front` meets its contract: what a glance takes is judged, and all else is cut and goes by the passes. Assumes nothing.
 use mathlib.Core.Path.{sym}
 use lib.Seq.{length-take-le}
-use Rattle.mt515.proofs.Glancing.{glanced-within, glanced-front}
+use Rattle.mt515.proofs.Glancing.{glanced-within, glanced-front, front-within, front-passes}
 use borrow.Author.Needs.{needs}
 use Rattle.mt515.proofs.read_front.Statement.{statement}
 use Rattle.mt515.proofs.read_front.Tie as tie
@@ -28,11 +28,22 @@ returns c =
 enum-told : tie.Need-enum-told
 enum-told c = search needs
 
-front-by-passes-requires : tie.Need-front-by-passes-requires
-front-by-passes-requires c κs = search needs
+piece-end-requires : tie.Need-piece-end-requires
+piece-end-requires c κs = search needs
+
+slice-aggregate-piece : tie.Need-slice-aggregate-piece
+slice-aggregate-piece c = sym (length-take-le _ _ (front-within _ _ (c .before .piece-end .ensures)))
+
+take-requires : tie.Need-take-requires
+take-requires c κs = search needs
+
+read-taken-requires : tie.Need-read-taken-requires
+read-taken-requires c κs = search needs
 
 returns-2 : tie.Need-returns-2
-returns-2 c = search needs
+returns-2 c =
+    let e = c .before .before .before .before .before .before .before in
+    front-passes _ _ (e .piece-end .ensures) _ (c .read-taken .ensures)
 
 pub read-front-spec : {M : Type 1} → statement M
 read-front-spec =
@@ -44,5 +55,8 @@ read-front-spec =
     judge-requires
     returns
     enum-told
-    front-by-passes-requires
+    piece-end-requires
+    slice-aggregate-piece
+    take-requires
+    read-taken-requires
     returns-2)
