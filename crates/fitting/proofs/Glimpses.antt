@@ -1,13 +1,14 @@
 -- What a glimpse of a row says of layout's look at it with the first line of the text, row by row and then over the rows of a table: a
 -- line that fits is decided so there, and one that goes further goes further there, with nothing mandatory passed over.
 -- Assumes nothing.
-use Prim.Native.Nat.{ℕ, zero, suc, _+_, _*_, _/_, _≤_, _<_}
+use Prim.Native.Nat.{ℕ, zero, suc, _+_, _-_, _*_, _/_, _≤_, _<_}
 use mathlib.Core.Path.{_≡_, refl, _∙_}
-use mathlib.Core.Bool.{Bool, true, false, _&&_, _||_, cond}
+use mathlib.Core.Bool.{Bool, true, false, _&&_, _||_, cond, and-assoc}
 use mathlib.Core.List.{List, [], _∷_}
 use native.Mathlib.Omega.{arith}
 use lib.Dec.{eqb}
 use lib.ListN.{length, take, drop, getD}
+use borrow.Author.Tests.{eqb-true, eqb-false}
 use Rattle.text.specs.Bytes.{begins, before}
 use Rattle.text.specs.Classes.{printed}
 use Rattle.text.proofs.Bools.{of-both}
@@ -18,8 +19,8 @@ use Rattle.layout.specs.Layout.{fitsOr9, lacks, isSeen, against, beneath, look,
 use Rattle.layout.specs.declared.Place.{Place}
 use Rattle.layout.specs.declared.Step.{Step}
 use Rattle.layout.specs.declared.Look.{Look}
-use Rattle.layout.proofs.Laws.{row-next, text-at}
-use Rattle.layout.proofs.Rows.{row-of, scan-stop, scan-more}
+use Rattle.layout.proofs.Laws.{row-next, row-at, text-at}
+use Rattle.layout.proofs.Rows.{row-of, NoneTo, ends-at, scan-stop, scan-more}
 use Rattle.fitting.specs.Fitting.{rowText, cleanRows, endsLine, Fits, Fitted, isEdge, glimpse, glimpseBeneath, glimpseAt}
 use Rattle.fitting.specs.declared.Fit.{Fit}
 use Rattle.fitting.specs.declared.Glimpse.{Glimpse}
@@ -30,6 +31,17 @@ use Rattle.fitting.proofs.Fronts.{begins-line, edge-line, key-front}
 pub row-kind : (t : List ℕ) (row kind : ℕ) (key : List ℕ) → row < length t / 16 → getD t (row * 16) 0 ≡ kind → key ≡ textAt t row
     → firstRow (drop (row * 16) t) ≡ rowOf kind (getD t (row * 16 + 1) 0) key
 row-kind t row kind key h e k = row-of t (row * 16) kind key e (k ∙ text-at t row h)
+
+-- inside a block that is being passed over, a row of none of the other kinds is the last of a block or an end
+pub out-beneath : (s : List ℕ) (deep : ℕ) (unmarked : Bool) (t : List ℕ) (at : ℕ)
+    → (((NoneTo 4 (getD t at 0) × (getD t at 0 ≡ 6 → ⊥)) × (getD t at 0 ≡ 7 → ⊥)) × (getD t at 0 ≡ 8 → ⊥)) × (getD t at 0 ≡ 9 → ⊥)
+    → glimpseBeneath s deep unmarked (firstRow (drop at t)) ≡ Glimpse.Further (deep - 1) unmarked
+unfolding glimpseBeneath rowOf NoneTo
+out-beneath s deep unmarked t at ((((n, six), seven), eight), nine) = on (eqb (getD t at 0) 5) refl
+  where
+    on : (b : Bool) → eqb (getD t at 0) 5 ≡ b → glimpseBeneath s deep unmarked (firstRow (drop at t)) ≡ Glimpse.Further (deep - 1) unmarked
+    on true e = rw (row-at t at, eqb-true (getD t at 0) 5 e)
+    on false e = rw (ends-at t at (((((n, eqb-false _ _ e), six), seven), eight), nine))
 
 -- ---- a glimpse beside a look
 
@@ -91,7 +103,7 @@ module _ (here : Place) (seen s : List ℕ) (row : ℕ) (rows : List Row) (deep 
   glimpse-told ends = tt
 
   beneath-told : (r : Row) → HeldBeneath r (glimpseBeneath s deep unmarked r)
-  unfolding Told glimpseBeneath beneath rowText
+  unfolding Told glimpseBeneath beneath rowText isEdge
   beneath-told (field m sl k) =
       of-both (HeldBeneath (field m sl k)) (unmarked && (eqb deep 1 && begins k s))
       (λ e. tt) (λ e. (omega arith, λ p h. rw (← begins-line k s p, e)))
@@ -100,8 +112,8 @@ module _ (here : Place) (seen s : List ℕ) (row : ℕ) (rows : List Row) (deep 
   beneath-told (many n a o) = (omega arith, λ p h. refl)
   beneath-told (mark sl k) = (omega arith, λ p h. refl)
   beneath-told (back c) =
-      of-both (HeldBeneath (back c)) (unmarked && (eqb deep 1 && isEdge s c))
-      (λ e. tt) (λ e. (omega arith, λ p h. rw (← edge-line c s p h, e)))
+      of-both (HeldBeneath (back c)) (unmarked && (eqb deep 1 && begins c s))
+      (λ e. tt) (λ e. (omega arith, λ p h. rw (← edge-line c s p h, ← and-assoc (eqb deep 1), ← and-assoc unmarked, e)))
   beneath-told ends = (omega arith, λ p h. refl)
 
   look-told : (r : Row) → Told (rowText r) s (deep + 1) (look here seen (withoutEnding s) row rows deep unmarked false r) (glimpseAt here seen s row rows deep unmarked r)

@@ -75,7 +75,8 @@ glimpse here seen s row rows unmarked (mark sl k) =
 glimpse here seen s row rows unmarked (back c) = cond (isEdge s c) (Glimpse.Edge (moves here (here .back)) (length c)) Glimpse.Not
 glimpse here seen s row rows unmarked ends = Glimpse.Not
 
--- a row inside a block that is being passed over
+-- a row inside a block that is being passed over. A text that begins as the last line of one of many blocks is not told, whether it is that
+-- line or not: its ending is not looked at
 unfoldable pub glimpseBeneath : List ℕ → ℕ → Bool → Row → Glimpse
 glimpseBeneath s deep unmarked (field m sl k) =
     cond (unmarked && (eqb deep 1 && begins k s)) Glimpse.Not (Glimpse.Further deep unmarked)
@@ -84,7 +85,7 @@ glimpseBeneath s deep unmarked (closes c) = Glimpse.Further (deep - 1) unmarked
 glimpseBeneath s deep unmarked (many n a o) = Glimpse.Further (deep + 1) unmarked
 glimpseBeneath s deep unmarked (mark sl k) = Glimpse.Further (deep + 1) unmarked
 glimpseBeneath s deep unmarked (back c) =
-    cond (unmarked && (eqb deep 1 && isEdge s c)) Glimpse.Not (Glimpse.Further (deep - 1) unmarked)
+    cond (unmarked && (eqb deep 1 && begins c s)) Glimpse.Not (Glimpse.Further (deep - 1) unmarked)
 glimpseBeneath s deep unmarked ends = Glimpse.Further (deep - 1) unmarked
 
 unfoldable pub glimpseAt : Place → List ℕ → List ℕ → ℕ → List Row → ℕ → Bool → Row → Glimpse

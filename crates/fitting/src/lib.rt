@@ -10,7 +10,7 @@ ghost use Prim.Native.Nat.{_*_, _+_, _/_, _^_, _≤_, _<_};
 ghost use lib.Dec.{eqb};
 ghost use lib.ListN.{length, drop};
 ghost use Rattle.text.specs.Bytes.{begins};
-ghost use Rattle.layout.specs.Rows.{rowsOf, firstRow, textAt, field, mark};
+ghost use Rattle.layout.specs.Rows.{rowsOf, firstRow, field, mark};
 ghost use Rattle.layout.specs.Layout.{takes};
 ghost use Rattle.fitting.specs.Fitting.{Fitted, isEdge, glimpse, glimpseBeneath, glimpseAt};
 
@@ -54,30 +54,18 @@ fn is_edge(text: &[u8], key: &[u8]) -> bool
     }
 }
 
-// A text against the first or last line of a block, which may stand here or not, and must or not; behind it the table goes on at `row`.
-fn see_edge(
-    row: usize,
-    back: usize,
-    key: &[u8],
-    may: bool,
-    must: bool,
-    text: &[u8],
-    unmarked: bool,
-) -> Glimpse
-    ensures { λ r. ⌜ r ≡ cond (isEdge (now (text .entry)) (now (key .entry)) && may) (Glimpse.Edge (record { number = 0; slot = 0; width = 0; place = record { row = row; back = back } }) (length (now (key .entry)))) (cond must Glimpse.Not (Glimpse.Further 1 unmarked)) ⌝ }
+// A text against the first or last line of a block, which must stand here or not; behind it the table goes on at `row`.
+fn see_edge(row: usize, back: usize, key: &[u8], must: bool, text: &[u8], unmarked: bool) -> Glimpse
+    ensures { λ r. ⌜ r ≡ cond (isEdge (now (text .entry)) (now (key .entry))) (Glimpse.Edge (record { number = 0; slot = 0; width = 0; place = record { row = row; back = back } }) (length (now (key .entry)))) (cond must Glimpse.Not (Glimpse.Further 1 unmarked)) ⌝ }
 {
-    if may {
-        if is_edge(text, key) {
-            let step = Step {
-                number: 0,
-                slot: 0,
-                width: 0,
-                place: Place { row, back },
-            };
-            Glimpse::Edge(step, key.len())
-        } else {
-            unless(must, 1, unmarked)
-        }
+    if is_edge(text, key) {
+        let step = Step {
+            number: 0,
+            slot: 0,
+            width: 0,
+            place: Place { row, back },
+        };
+        Glimpse::Edge(step, key.len())
     } else {
         unless(must, 1, unmarked)
     }
@@ -158,48 +146,34 @@ fn see_row(
     match kind {
         1 => see_field(row, slot, key, true, text, here, unmarked),
         2 => see_field(row, slot, key, false, text, here, unmarked),
-        3 => see_edge(next, back, key, true, true, text, unmarked),
-        4 => see_edge(next, back, key, true, false, text, unmarked),
-        5 => see_edge(next, back, key, true, true, text, unmarked),
-        6 => see_edge(next, row, key, true, false, text, unmarked),
+        3 => see_edge(next, back, key, true, text, unmarked),
+        4 => see_edge(next, back, key, false, text, unmarked),
+        5 => see_edge(next, back, key, true, text, unmarked),
+        6 => see_edge(next, row, key, false, text, unmarked),
         7 => {
-            let lacking = layout::lacks_one(table, next, seen);
-            see_edge(next, row, key, lacking, lacking, text, unmarked)
+            if layout::lacks_one(table, next, seen) {
+                see_edge(next, row, key, true, text, unmarked)
+            } else {
+                Glimpse::Further(1, unmarked)
+            }
         }
         8 => see_mark(row, slot, key, seen, text, here),
-        9 => see_edge(back, back, key, true, true, text, unmarked),
+        9 => see_edge(back, back, key, true, text, unmarked),
         _ => Glimpse::Not,
     }
 }
 
-// A text begins with a later field of one of many blocks that the line stands first in, where no mark was met.
-fn begins_bare(table: &[u8], row: usize, text: &[u8], deep: usize, unmarked: bool) -> bool
-    ensures { λ r. ⌜ r ≡ (unmarked && (eqb deep 1 && begins (textAt (now (table .entry)) row) (now (text .entry)))) ⌝ }
+// A text goes further behind a line of a block that is passed over. Where that is one of many blocks, whose first field was not met, and
+// the text begins as the line, nothing is told.
+fn pass_over(text: &[u8], key: &[u8], deep: usize, behind: usize, unmarked: bool) -> Glimpse
+    ensures { λ r. ⌜ r ≡ cond (unmarked && (eqb deep 1 && begins (now (key .entry)) (now (text .entry)))) Glimpse.Not (Glimpse.Further behind unmarked) ⌝ }
 {
     if unmarked {
         if deep == 1 {
-            text::begins_with(text, layout::row_text(table, row))
-        } else {
-            false
+            return unless(text::begins_with(text, key), behind, unmarked);
         }
-    } else {
-        false
     }
-}
-
-// A text begins with the last line of one of many blocks that the line stands first in, where no mark was met.
-fn closes_bare(table: &[u8], row: usize, text: &[u8], deep: usize, unmarked: bool) -> bool
-    ensures { λ r. ⌜ r ≡ (unmarked && (eqb deep 1 && isEdge (now (text .entry)) (textAt (now (table .entry)) row))) ⌝ }
-{
-    if unmarked {
-        if deep == 1 {
-            is_edge(text, layout::row_text(table, row))
-        } else {
-            false
-        }
-    } else {
-        false
-    }
+    Glimpse::Further(behind, unmarked)
 }
 
 // A text against a row inside a block that is being passed over.
@@ -208,28 +182,16 @@ fn see_beneath(table: &[u8], row: usize, text: &[u8], deep: usize, unmarked: boo
     ensures { λ r. ⌜ r ≡ glimpseBeneath (now (text .entry)) deep unmarked (firstRow (drop (row * 16) (now (table .entry)))) ⌝ }
 {
     let kind = table[row * 16];
+    let key = layout::row_text(table, row);
     match kind {
-        1 => unless(
-            begins_bare(table, row, text, deep, unmarked),
-            deep,
-            unmarked,
-        ),
-        2 => unless(
-            begins_bare(table, row, text, deep, unmarked),
-            deep,
-            unmarked,
-        ),
+        1 => pass_over(text, key, deep, deep, unmarked),
+        2 => pass_over(text, key, deep, deep, unmarked),
         3 => Glimpse::Further(deep + 1, unmarked),
         4 => Glimpse::Further(deep + 1, unmarked),
-        5 => Glimpse::Further(deep - 1, unmarked),
         6 => Glimpse::Further(deep + 1, unmarked),
         7 => Glimpse::Further(deep + 1, unmarked),
         8 => Glimpse::Further(deep + 1, unmarked),
-        9 => unless(
-            closes_bare(table, row, text, deep, unmarked),
-            deep - 1,
-            unmarked,
-        ),
+        9 => pass_over(text, key, deep, deep - 1, unmarked),
         _ => Glimpse::Further(deep - 1, unmarked),
     }
 }

@@ -1,21 +1,20 @@
 -- A line whose text is of 20 to 7E hex, with its ending, at the front of any bytes: it is the first line of them, and its places are
 -- those that were told.
 -- Assumes nothing.
-use Prim.Native.Nat.{ℕ, suc, _+_, _-_, _≤_, _<_, min}
+use Prim.Native.Nat.{ℕ, _+_, _-_, _≤_, _<_, min}
 use mathlib.Core.Path.{_≡_, refl, sym, ap, _∙_}
-use mathlib.Core.Bool.{Bool, true, false, _&&_, cond, and-true, true≢false}
+use mathlib.Core.Bool.{Bool, true, false, cond}
 use mathlib.Core.List.{List, [], _∷_, _++_, append-assoc}
 use mathlib.Core.Logic.{_⊎_, inl, inr}
 use native.Mathlib.Omega.{arith}
-use lib.Dec.{leb, eqb, eqb·suc-zero}
+use lib.Dec.{leb, eqb·suc-zero}
 use lib.ListN.{length, take, drop, length-append, length-drop, take-append-drop}
-use lib.Seq.{length-take-le, take-append-seam, drop-at}
+use lib.Seq.{length-take-le, take-append-seam, drop-at, drop-drop}
 use borrow.Author.Tests.{leb-true, le-leb}
 use Rattle.text.specs.Bytes.{bytes, begins, before}
 use Rattle.text.specs.Classes.{isBetween, printed}
 use Rattle.text.proofs.Laws.{and-left, and-right, and-both, begins-is}
-use Rattle.lines.specs.Lines.{bare, withoutEnding, linesOf, lineAt, endingWidth}
-use Rattle.lines.specs.declared.Line.{Line}
+use Rattle.lines.specs.Lines.{bare, withoutEnding, lineAt, endingWidth}
 use Rattle.lines.proofs.Laws.{print-lf, bare-print}
 use Rattle.fitting.specs.Fitting.{endsLine}
 use Rattle.glance.specs.Steps.{Ended}
@@ -67,6 +66,18 @@ ended-is s end over h e some known =
       ends = and-both (le-leb 1 _ low) (le-leb _ 2 high);
       is = ap (λ (x : ℕ). end + x) e;
     }
+
+-- the same, counted from where the line begins
+pub ended-from : (s : List ℕ) (at end next : ℕ) → Ended s (at + end) next → Ended (drop at s) end (next - at) × (at + (next - at) ≡ next)
+ended-from s at end next e =
+    let d = drop-drop end at s in
+    let l = length-drop at s in
+    let g = e .grows in
+    let w = e .within in
+    let i = e .is in (
+      record { grows = omega arith; within = omega arith; ends = rw d (e .ends); is = rw d (omega arith) },
+      omega arith,
+    )
 
 ending-of : (t : List ℕ) → endsLine t ≡ true → Begun t
 unfolding endsLine isBetween

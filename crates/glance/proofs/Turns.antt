@@ -4,28 +4,27 @@
 use Prim.Native.Nat.{ℕ, _+_, _-_, _≤_, _<_}
 use mathlib.Core.Path.{_≡_, refl, sym, ap, _∙_}
 use mathlib.Core.Bool.{Bool, true, false, cond}
-use mathlib.Core.List.{List, [], _∷_, _++_}
+use mathlib.Core.List.{List, [], _++_}
 use mathlib.Core.Logic.{_⊎_, inl, inr}
 use native.Mathlib.Omega.{arith}
 use lib.Dec.{eqb}
 use lib.ListN.{length, take, drop, getD, set, replicate, length-set, length-drop}
 use lib.Seq.{take-add}
 use Rattle.text.specs.Bytes.{bytes}
-use Rattle.text.specs.Classes.{printed}
 use Rattle.stretches.specs.Stretches.{slotCount}
 use Rattle.lines.specs.Lines.{startBehind}
-use Rattle.forms.specs.Forms.{Slot, valueNumber}
+use Rattle.forms.specs.Forms.{Slot}
 use Rattle.layout.specs.Rows.{Row}
 use Rattle.layout.specs.declared.Place.{Place}
 use Rattle.reader.specs.Header.{startsFrom, endsFrom}
-use Rattle.measure.specs.Measure.{cleanSlot}
+use Rattle.measure.specs.Measure.{cleanSlot, Measured}
 use Rattle.measure.specs.declared.Width.{Width}
 use Rattle.measure.specs.declared.Width.the-variants.{Is, Not}
 use Rattle.fitting.specs.Fitting.{cleanRows}
-use Rattle.glance.specs.Glance.{Clean, Glanced, Says}
-use Rattle.glance.specs.Steps.{Ended, HeadSeen, Sees, HeadTold, HeadSays, Closes, BodyTold, BodySays}
-use Rattle.glance.specs.declared.Head.the-variants as Heads
+use Rattle.glance.specs.Glance.{Says}
+use Rattle.glance.specs.Steps.{Ended, Sees, HeadSays, Closes, BodyTold, BodySays}
 use Rattle.glance.specs.declared.Taken.{Taken}
+use Rattle.glance.proofs.Lines.{ended-from}
 use Rattle.glance.proofs.Taking as Taking
 use Rattle.glance.proofs.Taking.{Last, heads-begin, heads-again, heads-over, lines-begin, lines-again, last-is, body-told}
 
@@ -54,17 +53,19 @@ module _ (slotOf : ℕ → Slot) (header s starts₀ ends₀ : List ℕ) where
   head-begin = record { place = omega arith; count = omega arith; starts-same = refl; ends-same = refl; known = λ c a b. heads-begin slotOf header s starts₀ ends₀ a b }
 
   module _ (starts ends : List ℕ) (at i : ℕ) (k : Head starts ends at i) where
-    pub head-again : (end next : ℕ) → HeadSeen (slotOf (getD header i 0)) (drop at s) (Heads.At end next) → i < length header
-        → (starts' ends' : List ℕ) → starts' ≡ set starts (getD header i 0) (at + length (slotOf (getD header i 0) .fixed)) → ends' ≡ set ends (getD header i 0) (at + end)
-        → Head starts' ends' (at + next) (i + 1)
-    unfolding HeadSeen
-    head-again end next (e, v, p) more starts' ends' a b =
+    pub head-again : (n next : ℕ) → Measured (slotOf (getD header i 0)) (drop at s) (Is n) → Ended s (at + n) next → i < length header
+        → (starts' ends' : List ℕ) → starts' ≡ set starts (getD header i 0) (at + length (slotOf (getD header i 0) .fixed)) → ends' ≡ set ends (getD header i 0) (at + n)
+        → Head starts' ends' next (i + 1)
+    unfolding Measured
+    head-again n next (h, v, p) e more starts' ends' a b =
+        let (f, w) = ended-from s at n next e in
         record {
-          place = within s at end next (k .place) e .0;
+          place = e .within;
           count = omega arith;
           starts-same = ap length a ∙ length-set starts _ _ ∙ k .starts-same;
           ends-same = ap length b ∙ length-set ends _ _ ∙ k .ends-same;
-          known = λ c x y. heads-again slotOf header s starts₀ ends₀ starts ends at i (k .known c x y) end next (k .place) e (p (c (getD header i 0))) more v starts' ends' a b;
+          known = λ c x y. rw w at
+              (heads-again slotOf header s starts₀ ends₀ starts ends at i (k .known c x y) n (next - at) (k .place) f (p (c (getD header i 0))) more v starts' ends' a b);
         }
 
     pub head-says : length header ≤ i → HeadSays slotOf header s starts₀ ends₀ starts ends (Is at)

@@ -20,8 +20,6 @@ use Rattle.measure.specs.Measure.{cleanSlot}
 use Rattle.measure.specs.declared.Width.{Width}
 use Rattle.measure.specs.declared.Width.the-variants.{Is, Not}
 use Rattle.fitting.specs.Fitting.{cleanRows, endsLine}
-use Rattle.glance.specs.declared.Head.{Head}
-use Rattle.glance.specs.declared.Head.the-variants as Heads
 use Rattle.glance.specs.declared.Taken.{Taken}
 
 -- ---- one line
@@ -36,11 +34,6 @@ pub record Ended (s : List ℕ) (end next : ℕ) : Type 0 where
 unfoldable pub Ends : List ℕ → ℕ → Width → Type 0
 Ends s end (Is next) = Ended s end next
 Ends s end Not = Unit
-
--- a line of the header gets 0 in its slot
-unfoldable pub HeadSeen : Slot → List ℕ → Head → Type 0
-HeadSeen slot s (Heads.At end next) = Ended s end next × (valueNumber slot (take end s) ≡ 0) × (cleanSlot slot ≡ true → printed (take end s) ≡ true)
-HeadSeen slot s Heads.Not = Unit
 
 -- a line behind the header is taken by the table, and its value gets 0
 pub record Tells (table : List Row) (slotOf : ℕ → Slot) (here : Place) (seen s : List ℕ) (t : Taken) : Type 0 where

@@ -13,18 +13,12 @@ ghost use lib.ListN.{length};
 ghost use Rattle.layout.specs.Rows.{rowsOf};
 ghost use Rattle.forms.specs.Slots.{slotAt};
 ghost use Rattle.glance.specs.Glance.{Says};
-ghost use Rattle.glance.specs.Steps.{Ends, HeadSeen, Told, FieldSeen, Sees, HeadSays, Closes, BodySays};
+ghost use Rattle.glance.specs.Steps.{Ends, Told, FieldSeen, Sees, HeadSays, Closes, BodySays};
 
 // The most bytes of a message, and the line that is its last.
 const LONGEST: usize = 4096;
 
 const LAST: [u8; 1] = *b"-";
-
-// A line of the header: where its text ends, and where the next line begins. Or nothing is told.
-enum Head {
-    At(usize, usize),
-    Not,
-}
 
 // A line that was looked for, told or not: what it does, where its value begins and its text ends, and where the next line begins, all
 // from its own front. (The flag is one of the struct's, and not an enum around it, since the compiler then keeps all of it in registers.)
@@ -69,19 +63,6 @@ fn behind(text: &[u8], end: usize) -> Width
         return Width::Not;
     }
     Width::Is(end + over)
-}
-
-// A line of the header at the front of a text.
-fn head_line(text: &[u8], slots: &[u8], slot: u8) -> Head
-    ensures { λ r. ⌜ HeadSeen (slotAt (now (slots .entry)) slot) (now (text .entry)) r ⌝ }
-{
-    let Width::Is(end) = measure::plain(slots, slot, text) else {
-        return Head::Not;
-    };
-    let Width::Is(next) = behind(text, end) else {
-        return Head::Not;
-    };
-    Head::At(end, next)
 }
 
 // A line whose text ends at a place, and whose value begins at another.
@@ -141,11 +122,14 @@ fn take_header(
         if slot == 0 {
             return Width::Not;
         }
-        let Head::At(end, next) = head_line(&text[at..], slots, slot) else {
+        let Width::Is(n) = measure::plain(slots, slot, &text[at..]) else {
             return Width::Not;
         };
-        walk::keep(slots, starts, ends, slot as usize, at, at + end);
-        at += next;
+        let Width::Is(next) = behind(text, at + n) else {
+            return Width::Not;
+        };
+        walk::keep(slots, starts, ends, slot as usize, at, at + n);
+        at = next;
         i += 1;
     }
     Width::Is(at)

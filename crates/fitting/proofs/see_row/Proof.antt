@@ -1,6 +1,6 @@
 -- `fitting::see_row` meets its contract. Assumes nothing.
 use Prim.Native.Nat.{_+_, _*_}
-use mathlib.Core.Bool.{and-true}
+use mathlib.Core.Bool.{and-true, and-false}
 use native.Mathlib.Omega.{arith}
 use Rattle.layout.specs.Rows.{rowOf}
 use Rattle.layout.proofs.Rows.{NoneTo, ends-at}
@@ -83,53 +83,60 @@ unfolding glimpse rowOf
 returns-3 c =
     let at = c .before in
     let text = at .before in
-    rw (row-kind _ _ 3 _ (text .before .before .before .before .before .before .pre) (at .match .keys3) (text .row-text .ensures)) (rw and-true at (c .see-edge .ensures))
+    rw (row-kind _ _ 3 _ (text .before .before .before .before .before .before .pre) (at .match .keys3) (text .row-text .ensures)) (c .see-edge .ensures)
 
 returns-4 : tie.Need-returns-4
 unfolding glimpse rowOf
 returns-4 c =
     let at = c .before in
     let text = at .before in
-    rw (row-kind _ _ 4 _ (text .before .before .before .before .before .before .pre) (at .match .keys4) (text .row-text .ensures)) (rw and-true at (c .see-edge2 .ensures))
+    rw (row-kind _ _ 4 _ (text .before .before .before .before .before .before .pre) (at .match .keys4) (text .row-text .ensures)) (c .see-edge2 .ensures)
 
 returns-5 : tie.Need-returns-5
 unfolding glimpse rowOf
 returns-5 c =
     let at = c .before in
     let text = at .before in
-    rw (row-kind _ _ 5 _ (text .before .before .before .before .before .before .pre) (at .match .keys5) (text .row-text .ensures)) (rw and-true at (c .see-edge3 .ensures))
+    rw (row-kind _ _ 5 _ (text .before .before .before .before .before .before .pre) (at .match .keys5) (text .row-text .ensures)) (c .see-edge3 .ensures)
 
 returns-6 : tie.Need-returns-6
 unfolding glimpse rowOf
 returns-6 c =
     let at = c .before in
     let text = at .before in
-    rw (row-kind _ _ 6 _ (text .before .before .before .before .before .before .pre) (at .match .keys6) (text .row-text .ensures)) (c .see-edge4 .ensures)
+    rw (row-kind _ _ 6 _ (text .before .before .before .before .before .before .pre) (at .match .keys6) (text .row-text .ensures), and-true) (c .see-edge4 .ensures)
 
 returns-7 : tie.Need-returns-7
 unfolding glimpse rowOf
 returns-7 c =
-    let at = c .before .before in
+    let at = c .before .before .before in
     let text = at .before in
-    rw (row-kind _ _ 7 _ (text .before .before .before .before .before .before .pre) (at .match .keys7) (text .row-text .ensures), ← c .before .lacks-one .ensures) (c .see-edge5 .ensures)
+    rw (row-kind _ _ 7 _ (text .before .before .before .before .before .before .pre) (at .match .keys7) (text .row-text .ensures), ← c .before .before .lacks-one .ensures, c .before .if1 .taken, and-true) (c .see-edge5 .ensures)
 
 returns-8 : tie.Need-returns-8
 unfolding glimpse rowOf
 returns-8 c =
-    let at = c .before in
+    let at = c .before .before in
     let text = at .before in
-    rw (row-kind _ _ 8 _ (text .before .before .before .before .before .before .pre) (at .match .keys8) (text .row-text .ensures)) (c .see-mark .ensures)
+    rw (row-kind _ _ 7 _ (text .before .before .before .before .before .before .pre) (at .match .keys7) (text .row-text .ensures), ← c .before .lacks-one .ensures, c .if1 .left, and-false)
 
 returns-9 : tie.Need-returns-9
 unfolding glimpse rowOf
 returns-9 c =
     let at = c .before in
     let text = at .before in
-    rw (row-kind _ _ 9 _ (text .before .before .before .before .before .before .pre) (at .match .keys9) (text .row-text .ensures)) (rw and-true at (c .see-edge6 .ensures))
+    rw (row-kind _ _ 8 _ (text .before .before .before .before .before .before .pre) (at .match .keys8) (text .row-text .ensures)) (c .see-mark .ensures)
 
 returns-10 : tie.Need-returns-10
+unfolding glimpse rowOf
+returns-10 c =
+    let at = c .before in
+    let text = at .before in
+    rw (row-kind _ _ 9 _ (text .before .before .before .before .before .before .pre) (at .match .keys9) (text .row-text .ensures)) (c .see-edge6 .ensures)
+
+returns-11 : tie.Need-returns-11
 unfolding glimpse NoneTo
-returns-10 c = rw (ends-at _ _ (c .match .rest))
+returns-11 c = rw (ends-at _ _ (c .match .rest))
 
 pub see-row-spec : {M : Type 1} → statement M
 see-row-spec =
@@ -162,4 +169,5 @@ see-row-spec =
     returns-7
     returns-8
     returns-9
-    returns-10)
+    returns-10
+    returns-11)
