@@ -13,7 +13,7 @@ use Rattle.text.specs.Bytes.{before}
 use Rattle.text.proofs.Laws.{and-left, and-right}
 use Rattle.text.proofs.Bools.{eqb-turn}
 use Rattle.layout.specs.Rows.{Row, field, opens, closes, many, mark, back, ends, rowOf, textAt, firstRow, rowsOf}
-use Rattle.layout.proofs.Laws.{row-next, row-none, row-at, text-at}
+use Rattle.layout.proofs.Laws.{row-next, row-none, row-at, text-at, text-none}
 use Rattle.sheets.specs.Filled.{some}
 use Rattle.fill.specs.Runs.{overRun, behindRun}
 use Rattle.fill.specs.Filling.{isAny, withEnding, heldParts, lower, deeper, hasValue, anyRows, stands, opener, puts, walk}
@@ -316,10 +316,13 @@ module _ (value : ℕ → List ℕ) (parts : ℕ → List (List ℕ)) where
   -- all rows: what is put from a row on is what is put from the first on
   abbrev pub Same : List ℕ → List ℕ → ℕ → ℕ → ℕ → ℕ → List ℕ → ℕ → Type 0
   Same t buf₀ at₀ row off place buf at =
-      (overRun buf at (walk value parts (textAt t place) off (drop row (rowsOf t))) ≡ overRun buf₀ at₀ (walk value parts (textAt t 0) 0 (rowsOf t)))
-      × (behindRun buf at (walk value parts (textAt t place) off (drop row (rowsOf t))) ≡ behindRun buf₀ at₀ (walk value parts (textAt t 0) 0 (rowsOf t)))
+      (overRun buf at (walk value parts (textAt t place) off (drop row (rowsOf t))) ≡ overRun buf₀ at₀ (walk value parts [] 0 (rowsOf t)))
+      × (behindRun buf at (walk value parts (textAt t place) off (drop row (rowsOf t))) ≡ behindRun buf₀ at₀ (walk value parts [] 0 (rowsOf t)))
       × (off ≤ row)
       × (length buf ≡ length buf₀)
+
+  pub rows-begun : (t buf : List ℕ) (at : ℕ) → Same t buf at 0 0 (length t / 16) buf at
+  rows-begun t buf at = let none = text-none t (length t / 16) (omega arith) in (rw none, rw none, omega arith, refl)
 
   module _ (t buf₀ : List ℕ) (at₀ row off place : ℕ) (buf : List ℕ) (at : ℕ) (inv : Same t buf₀ at₀ row off place buf at) where
     pub rows-more : row < length t / 16 → (buf' : List ℕ) (at' off' place' : ℕ) → Next t row off place buf at buf' at' off' place'
@@ -341,7 +344,7 @@ module _ (value : ℕ → List ℕ) (parts : ℕ → List (List ℕ)) where
         go true = omega arith
         go false = let m = deeper-most (firstRow (drop (row * 16) t)) off in let i = inv .2 in omega arith
 
-    pub rows-done : length t / 16 ≤ row → Run buf₀ at₀ (walk value parts (textAt t 0) 0 (rowsOf t)) at buf
+    pub rows-done : length t / 16 ≤ row → Run buf₀ at₀ (walk value parts [] 0 (rowsOf t)) at buf
     unfolding overRun behindRun
     rows-done h =
         let e : walk value parts (textAt t place) off (drop row (rowsOf t)) ≡ [] = rw (row-none t row h) (walk-none (textAt t place) off) in

@@ -6,12 +6,12 @@ use mathlib.Core.Bool.{Bool, true, false, _||_, cond, or-assoc, or-false}
 use mathlib.Core.List.{List, [], _∷_, _++_, append-assoc, append-nil, flatten}
 use Rattle.text.specs.Bytes.{bytes}
 use Rattle.lines.specs.Lines.{joined}
-use Rattle.layout.specs.Rows.{Row, field, mark, back, textAt, rowsOf}
+use Rattle.layout.specs.Rows.{Row, field, mark, back}
 use Rattle.sheets.specs.Trees.{Field, Member, Tree, last, line, block, group, fieldRows, memberRows, rowsIn, tableOf}
 use Rattle.sheets.specs.Sheets.{Entry, edge, item, lineOf, linesIn}
 use Rattle.sheets.specs.Filled.{some, anyField, anyMember, anyIn, filledFields, filledMembers, filled}
 use Rattle.sheets.proofs.Order.{lines-both}
-use Rattle.fill.specs.Filling.{withEnding, heldParts, lower, deeper, hasValue, anyRows, stands, opener, puts, walk, Lent, frontAt, valueAt, behindAt, partsAt, filling}
+use Rattle.fill.specs.Filling.{withEnding, heldParts, lower, deeper, hasValue, anyRows, stands, opener, puts, walk}
 use Rattle.fill.proofs.Runs.{flat-append}
 
 -- ---- lines joined
@@ -191,11 +191,7 @@ module _ (value : ℕ → List ℕ) (parts : ℕ → List (List ℕ)) (same : (s
       members-out c ms o (rowsIn t rows)
       ∙ rw (rows-out t o rows, text-append (filledMembers value o c ms) (filled value t)) (sym (append-assoc (text (filledMembers value o c ms)) (text (filled value t)) (out (openerIn o t) zero rows)))
 
--- ---- so it is for a table's bytes that are the rows of a tree
-
-pub filling-is : (l : Lent) (rows : List ℕ) (t : Tree) → rowsOf rows ≡ tableOf t → flatten (filling l rows) ≡ joined (linesIn (filled (behindAt l) t))
-unfolding filling tableOf flatten walk
-filling-is l rows t e =
-    rw e
-    (rows-out (behindAt l) (partsAt l) (λ s. ap (λ (v : List ℕ). frontAt l s ++ v) (append-nil (valueAt l s))) t (textAt rows 0) []
-    ∙ append-nil (text (filled (behindAt l) t)))
+  -- so it is for the table of a tree
+  pub walk-is : (t : Tree) → flatten (walk value parts [] 0 (tableOf t)) ≡ joined (linesIn (filled value t))
+  unfolding tableOf flatten walk
+  walk-is t = rows-out t [] [] ∙ append-nil (text (filled value t))

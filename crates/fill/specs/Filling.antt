@@ -8,7 +8,7 @@ use lib.ListN.{length}
 use Rattle.text.specs.Bytes.{bytes}
 use Rattle.stretches.specs.Stretches.{stretchOf}
 use Rattle.forms.specs.Slots.{slotAt}
-use Rattle.layout.specs.Rows.{Row, field, opens, closes, many, mark, back, ends, textAt, rowsOf}
+use Rattle.layout.specs.Rows.{Row, field, opens, closes, many, mark, back, ends, rowsOf}
 use Rattle.sheets.specs.Filled.{some}
 
 -- ---- what stands behind the text of a slot
@@ -96,7 +96,7 @@ withEnding l = l ∷ bytes "\r\n" ∷ []
 abbrev pub heldParts : (ℕ → List (List ℕ)) → ℕ → List ℕ → List (List ℕ)
 heldParts parts slot key = key ∷ (parts slot ++ (bytes "\r\n" ∷ []))
 
--- the first line of the last many blocks
+-- the first line of the last many blocks, none in front of the first
 unfoldable pub opener : List ℕ → Row → List ℕ
 opener first (field m s k) = first
 opener first (opens m o) = first
@@ -127,4 +127,4 @@ walk value parts first (suc off) (r ∷ rows) = walk value parts (opener first r
 
 -- the parts of a table's bytes
 unfoldable pub filling : Lent → List ℕ → List (List ℕ)
-filling l rows = walk (behindAt l) (partsAt l) (textAt rows 0) 0 (rowsOf rows)
+filling l rows = walk (behindAt l) (partsAt l) [] 0 (rowsOf rows)

@@ -18,7 +18,8 @@ ghost use Rattle.fill.specs.Runs.{overRun, behindRun};
 ghost use Rattle.fill.specs.Filling.{lent, isAny, withEnding, filling};
 ghost use Rattle.fill.specs.Steps.{isHeld, isEdge, Next};
 
-// Where the walk is: the place in the buffer, the blocks since one that does not stand, and the row of the last many blocks.
+// Where the walk is: the place in the buffer, the blocks since one that does not stand, and the row of the last many blocks; before the
+// first of them that is behind the last row, which has no text.
 struct Walk {
     at: usize,
     off: usize,
@@ -46,10 +47,9 @@ fn put_first(buf: &mut [u8], at: usize, kind: u8, rows: &[u8], many: usize) -> u
 // one of them begins.
 fn put_held<'a>(
     buf: &mut [u8],
-    at: usize,
     rows: &[u8],
     row: usize,
-    many: usize,
+    here: Walk,
     slots: &[u8],
     optional: &[u8],
     text: &[u8],
@@ -57,8 +57,10 @@ fn put_held<'a>(
     ends: &'a [usize],
 ) -> Walk
     requires { ⌜ (row < length (now rows) / 16) × (isHeld (getD (now rows) (row * 16) 0) ≡ true) ⌝ }
-    ensures { λ r. ⌜ Next (lent (now (slots .entry)) (now (optional .entry)) (now (text .entry)) (now (starts .entry)) (now (ends .entry))) (now (rows .entry)) row 0 many (now (buf .entry)) at (now (buf .exit)) (r .at) (r .off) (r .many) ⌝ }
+    ensures { λ r. ⌜ Next (lent (now (slots .entry)) (now (optional .entry)) (now (text .entry)) (now (starts .entry)) (now (ends .entry))) (now (rows .entry)) row 0 (here .many) (now (buf .entry)) (here .at) (now (buf .exit)) (r .at) (r .off) (r .many) ⌝ }
 {
+    let at = here.at;
+    let many = here.many;
     let kind = rows[row * 16];
     let slot = rows[row * 16 + 1];
     let value = parts::value_of(text, starts, ends, slot);
@@ -82,10 +84,9 @@ fn put_held<'a>(
 // The first or last line of a block, where all blocks around it stand: its text is all that is looked up.
 fn put_block<'a>(
     buf: &mut [u8],
-    at: usize,
     rows: &[u8],
     row: usize,
-    many: usize,
+    here: Walk,
     slots: &[u8],
     optional: &[u8],
     text: &[u8],
@@ -93,8 +94,10 @@ fn put_block<'a>(
     ends: &'a [usize],
 ) -> Walk
     requires { ⌜ (row < length (now rows) / 16) × (isHeld (getD (now rows) (row * 16) 0) ≡ false) × (isEdge (getD (now rows) (row * 16) 0) ≡ true) ⌝ }
-    ensures { λ r. ⌜ Next (lent (now (slots .entry)) (now (optional .entry)) (now (text .entry)) (now (starts .entry)) (now (ends .entry))) (now (rows .entry)) row 0 many (now (buf .entry)) at (now (buf .exit)) (r .at) (r .off) (r .many) ⌝ }
+    ensures { λ r. ⌜ Next (lent (now (slots .entry)) (now (optional .entry)) (now (text .entry)) (now (starts .entry)) (now (ends .entry))) (now (rows .entry)) row 0 (here .many) (now (buf .entry)) (here .at) (now (buf .exit)) (r .at) (r .off) (r .many) ⌝ }
 {
+    let at = here.at;
+    let many = here.many;
     let kind = rows[row * 16];
     if !standing::is_open(kind, rows, row, slots, optional, text, starts, ends) {
         return Walk {
@@ -137,32 +140,10 @@ fn put_next<'a>(
         };
     }
     if parts::is_held(kind) {
-        return put_held(
-            buf,
-            at,
-            rows,
-            row,
-            many,
-            slots,
-            optional,
-            text,
-            starts,
-            ends,
-        );
+        return put_held(buf, rows, row, here, slots, optional, text, starts, ends);
     }
     if parts::is_edge(kind) {
-        return put_block(
-            buf,
-            at,
-            rows,
-            row,
-            many,
-            slots,
-            optional,
-            text,
-            starts,
-            ends,
-        );
+        return put_block(buf, rows, row, here, slots, optional, text, starts, ends);
     }
     Walk {
         at,
@@ -188,7 +169,7 @@ pub fn put_rows<'a>(
     let mut here = Walk {
         at,
         off: 0,
-        many: 0,
+        many: count,
     };
     let mut row = 0;
     while row < count {

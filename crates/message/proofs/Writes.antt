@@ -15,9 +15,8 @@ use Rattle.format.proofs.Tests.{every}
 use Rattle.format.proofs.Demands as Demands
 use Rattle.fill.specs.Runs.{overRun}
 use Rattle.fill.specs.Filling.{lent}
-use Rattle.fill.proofs.Runs.{Put, Run}
-use Rattle.writer.specs.Parts.{messageParts}
-use Rattle.writer.proofs.Messages.{optionalIn, optional-are, put-message}
+use Rattle.writer.specs.Parts.{messageParts, partsFor}
+use Rattle.writer.proofs.Messages.{optionalIn, optional-are, parts-are}
 use Rattle.writer.proofs.Writes as Any
 use Rattle.writer.proofs.Writes.{Answer}
 use Rattle.trade.specs.declared.Trade.{Trade}
@@ -29,7 +28,6 @@ use Rattle.values.specs.Values.{values, valueOf}
 use Rattle.values.specs.Places.{ends}
 use Rattle.values.proofs.Places.{stretch-held}
 use Rattle.judge.specs.Judging.{judgeOf}
-use Rattle.message.specs.Messages.{messageOf}
 use Rattle.message.specs.Writing.{writingOf, writtenOver, writable}
 
 -- ---- what is lent
@@ -40,13 +38,11 @@ pub values-lent : (t : Trade) (buf text places : List ℕ) → text ≡ overRun 
 unfolding valueOf
 values-lent t buf text places e f h s = rw (rest-of 1 (length places) places refl, e, f) (stretch-held (values t) buf h s)
 
--- put where all have room, the parts are the message
-pub put-whole : (t : Trade) (buf rows fixed may text from to : List ℕ) {r : ℕ} {now : List ℕ}
-    → Run buf 0 (messageParts (lent fixed may text from to) header rows) r now → length (messageOf t) ≤ length buf
-    → rowsOf rows ≡ tableOf tree → slotsIn fixed 0 42 ≡ lines → length fixed ≡ 840 → every (optionalIn mt515 may) (may ++ slotsOf tree) ≡ true
-    → ((s : ℕ) → stretchOf text from to s ≡ valueOf t s) → Put buf 0 (messageOf t) r now
-put-whole t buf rows fixed may text from to p room rows-are fixed-are long may-are held =
-    put-message mt515 t (lent fixed may text from to) rows rows-are (slots-are fixed fixed-are long) (optional-are mt515 may may-are) held buf p room
+-- bytes that are the table, its slots and the optional ones
+pub parts-lent : (rows fixed may text from to : List ℕ) → rowsOf rows ≡ tableOf tree → slotsIn fixed 0 42 ≡ lines → length fixed ≡ 840
+    → every (optionalIn mt515 may) (may ++ slotsOf tree) ≡ true → messageParts (lent fixed may text from to) header rows ≡ partsFor mt515 (stretchOf text from to)
+parts-lent rows fixed may text from to rows-are fixed-are long may-are =
+    parts-are mt515 (lent fixed may text from to) rows rows-are (slots-are fixed fixed-are long) (optional-are mt515 may may-are)
 
 -- ---- the answers of a write
 

@@ -6,6 +6,10 @@ ghost use mathlib.Core.Path.{_≡_};
 ghost use Prim.Native.Nat.{_≤_};
 ghost use lib.ListN.{length};
 ghost use Rattle.text.specs.Copy.{placed, after};
+ghost use Rattle.stretches.specs.Stretches.{stretchOf};
+ghost use Rattle.fill.specs.Runs.{overRun, behindRun};
+ghost use Rattle.writer.specs.Parts.{partsFor};
+ghost use Rattle.values.specs.Mt515.{mt515};
 ghost use Rattle.message.specs.Messages.{messageOf};
 ghost use Rattle.message.specs.Writing.{writingOf, writtenOver};
 
@@ -15,8 +19,25 @@ pub struct Writing {
     pub length: usize,
 }
 
-// The message of a record, into a buffer that has room for it. Its values are put into a text once, and lent with the bytes of the
-// header, the table and the slots, so that neither the record nor a table is copied at each row.
+// Puts a message with lent values, a text and for each slot where its value begins and ends, from the start of the buffer, each part
+// where it has room, and answers the place behind it. The bytes of the header, the table and the slots are lent here alone.
+pub fn put<'a>(buf: &mut [u8], text: &[u8], starts: &'a [usize], ends: &'a [usize]) -> usize
+    ensures { λ r. ⌜ (r ≡ behindRun (now (buf .entry)) 0 (partsFor mt515 (stretchOf (now (text .entry)) (now (starts .entry)) (now (ends .entry))))) × (now (buf .exit) ≡ overRun (now (buf .entry)) 0 (partsFor mt515 (stretchOf (now (text .entry)) (now (starts .entry)) (now (ends .entry))))) ⌝ }
+{
+    writer::put_message(
+        buf,
+        &table::HEADER,
+        &table::TABLE,
+        &table::SLOTS,
+        &values::OPTIONAL,
+        text,
+        starts,
+        ends,
+    )
+}
+
+// The message of a record, into a buffer that has room for it. Its values are put into a text once, so that the record is not copied at
+// each row.
 fn compose(buf: &mut [u8], trade: Trade) -> usize
     requires { ⌜ length (messageOf trade) ≤ length (now buf) ⌝ }
     ensures { λ r. ⌜ (r ≡ after (now (buf .entry)) 0 (messageOf trade)) × (now (buf .exit) ≡ placed (now (buf .entry)) 0 (messageOf trade)) ⌝ }
@@ -25,16 +46,7 @@ fn compose(buf: &mut [u8], trade: Trade) -> usize
     let mut places = [0usize; 31];
     values::put_values(&mut text, &mut places, trade);
     let starts: &[usize] = &places;
-    writer::put_message(
-        buf,
-        &table::HEADER,
-        &table::TABLE,
-        &table::SLOTS,
-        &values::OPTIONAL,
-        &text,
-        starts,
-        &starts[1..],
-    )
+    put(buf, &text, starts, &starts[1..])
 }
 
 // Writes the message of a record into a lent buffer. The record is judged first and the message composed elsewhere, so that

@@ -27,7 +27,7 @@ use Rattle.table.specs.Tree.{tree}
 use Rattle.table.proofs.Trees.{good}
 use Rattle.values.specs.Mt515.{mt515}
 use Rattle.values.proofs.Laid.{layout}
-use Rattle.mt515.specs.Reading.{verdictOf, placesOf}
+use Rattle.mt515.specs.Reading.{verdictOf, keptOf}
 use Rattle.message.specs.Messages.{messageOf}
 use Rattle.message.specs.Plain.{plainOf}
 use Rattle.demands.proofs.Laws.{laws}
@@ -42,7 +42,7 @@ whole m buf v n now (a, b, c) = (rw (a, b), c)
 
 -- ---- the verdict that stands beside the places
 
-module _ (m : List ℕ) (r : Body) (is : r ≡ placesOf m) where
+module _ (m : List ℕ) (r : Body) (is : r ≡ keptOf m) where
   abbrev taken : Body
   taken = takeOf (tableOf tree) slotOf header m
 
@@ -54,7 +54,7 @@ module _ (m : List ℕ) (r : Body) (is : r ≡ placesOf m) where
       ∙ then-zero (passOf (tableOf tree) slotOf header m) (Any.rulesOf mt515 (Any.valueOn mt515 m (takenIn (Any.bodyOf mt515 m)))) (ap number (rows-verdict mt515 good m) ∙ z) .0
 
   pub refused-is : (r .verdict .number ≡ 0 → ⊥) → r .verdict ≡ verdictOf m
-  unfolding placesOf placeless
+  unfolding keptOf placeless
   refused-is h = ap (λ (x : Body). x .verdict) is ∙ on (eqb (verdictOf m .number) 0) refl
     where
       on : (b : Bool) → eqb (verdictOf m .number) 0 ≡ b → cond b taken (placeless (verdictOf m)) .verdict ≡ verdictOf m
@@ -64,7 +64,7 @@ module _ (m : List ℕ) (r : Body) (is : r ≡ placesOf m) where
       on false e = refl
 
   pub accepted-is : r .verdict .number ≡ 0 → verdictOf m .number ≡ 0
-  unfolding placesOf placeless
+  unfolding keptOf placeless
   accepted-is z = on (eqb (verdictOf m .number) 0) refl (ap (λ (x : Body). x .verdict .number) (sym is) ∙ z)
     where
       on : (b : Bool) → eqb (verdictOf m .number) 0 ≡ b → cond b taken (placeless (verdictOf m)) .verdict .number ≡ 0 → verdictOf m .number ≡ 0

@@ -12,17 +12,13 @@ use lib.ListN.{length, take, drop, getD, set, length-set, length-take, length-dr
 use borrow.Author.Tests.{leb-true, ltb-true, ltb-false}
 use Rattle.text.proofs.Laws.{and-left, and-right}
 use Rattle.stretches.specs.Stretches.{slotCount, between, stretchOf}
-use Rattle.forms.proofs.Tables.{places as slotsIn}
-use Rattle.layout.specs.Rows.{rowsOf}
 use Rattle.sheets.specs.Trees.{tableOf}
 use Rattle.sheets.specs.Slots.{fieldSlots, ownSlots, memberSlots, slotsOf}
 use Rattle.sheets.specs.Sheets.{has}
 use Rattle.walk.specs.declared.Body.{Body}
 use Rattle.reader.specs.Take.{takeOf}
-use Rattle.fill.specs.Filling.{lent}
 use Rattle.fill.proofs.Runs.{Put, Run}
-use Rattle.writer.specs.Parts.{messageParts}
-use Rattle.writer.proofs.Messages.{optionalIn}
+use Rattle.writer.specs.Parts.{partsFor}
 use Rattle.format.specs.Demands.{heldIn}
 use Rattle.format.proofs.Tests.{every, isAmountForm}
 use Rattle.format.proofs.Laws.{everySlot}
@@ -32,15 +28,15 @@ use Rattle.format.proofs.Lent.{Amounts, shortest-start, shortest-end, moved-at,
 use Rattle.amount.proofs.Shortening.{lies-within, shortestIn}
 use Rattle.amount.specs.Amounts.{shortestOf}
 use Rattle.trade.specs.declared.Trade.{Trade}
-use Rattle.table.specs.Table.{header, lines, slots, slotOf}
+use Rattle.table.specs.Table.{header, slots, slotOf}
 use Rattle.table.specs.Tree.{general, pool, details, tree}
 use Rattle.values.specs.Mt515.{mt515}
 use Rattle.values.specs.Values.{values, valueOf}
 use Rattle.values.proofs.Fields.{Each, each-at, _⨾_}
 use Rattle.values.proofs.Laid.{layout}
-use Rattle.mt515.specs.Reading.{verdictOf, placesOf}
+use Rattle.mt515.specs.Reading.{verdictOf, keptOf}
 use Rattle.message.specs.Plain.{plainOf}
-use Rattle.message.proofs.Writes.{put-whole}
+use Rattle.writer.proofs.Laws.{put-whole}
 use Rattle.demands.proofs.Laws.{laws}
 use Rattle.plain.proofs.Answers.{accepted}
 
@@ -112,9 +108,9 @@ moved : (m starts ends starts' ends' : List ℕ) (k : ℕ) → length starts ≡
     → stretchOf m starts' ends' s ≡ cond (eqb k s) (shortestIn (stretchOf m starts ends k)) (stretchOf m starts ends s)
 moved m starts ends starts' ends' k l e a b s h = rw (a, b) (moved-at m starts ends k s (rw l h) (rw e h))
 
-module _ (m : List ℕ) (z : verdictOf m .number ≡ 0) (r : Body) (is : r ≡ placesOf m) (l : length (r .starts) ≡ slotCount) (e : length (r .ends) ≡ slotCount) where
+module _ (m : List ℕ) (z : verdictOf m .number ≡ 0) (r : Body) (is : r ≡ keptOf m) (l : length (r .starts) ≡ slotCount) (e : length (r .ends) ≡ slotCount) where
   body-is : r ≡ takeOf (tableOf tree) slotOf header m
-  unfolding placesOf
+  unfolding keptOf
   body-is = is ∙ rw z
 
   module _ (s1 e1 s2 e2 : List ℕ) (a1 : s1 ≡ set (r .starts) 9 (shortest-start m (r .starts) (r .ends) 9)) (b1 : e1 ≡ set (r .ends) 9 (shortest-end m (r .starts) (r .ends) 9))
@@ -136,9 +132,8 @@ module _ (m : List ℕ) (z : verdictOf m .number ≡ 0) (r : Body) (is : r ≡ p
         (λ s h. behind-none m s2 e2 s (rw (ap length a2 ∙ length-set s1 18 _ ∙ starts-many) h) (rw (ap length b2 ∙ length-set e1 18 _ ∙ ends-many) h))
 
     -- put where all have room, the parts are the plain form
-    pub put-plain : (buf rows fixed may : List ℕ) {n : ℕ} {now : List ℕ} → Run buf 0 (messageParts (lent fixed may m s2 e2) header rows) n now
-        → length (plainOf m) ≤ length buf → rowsOf rows ≡ tableOf tree → slotsIn fixed 0 42 ≡ lines → length fixed ≡ 840
-        → every (optionalIn mt515 may) (may ++ slotsOf tree) ≡ true → Put buf 0 (plainOf m) n now
-    put-plain buf rows fixed may p room rows-are fixed-are long may-are =
+    pub put-plain : (buf : List ℕ) {n : ℕ} {now : List ℕ} → Run buf 0 (partsFor mt515 (stretchOf m s2 e2)) n now → length (plainOf m) ≤ length buf
+        → Put buf 0 (plainOf m) n now
+    put-plain buf p room =
         let plain = plainly mt515 layout laws m (accepted m z) in
-        rw plain at (put-whole (heldIn mt515 m) buf rows fixed may m s2 e2 p (rw plain room) rows-are fixed-are long may-are held)
+        rw plain at (put-whole mt515 (heldIn mt515 m) (stretchOf m s2 e2) held buf p (rw plain room))

@@ -10,7 +10,7 @@ ghost use Rattle.text.specs.Copy.{placed, after};
 ghost use Rattle.amount.specs.Amounts.{shortestOf};
 ghost use Rattle.stretches.specs.Stretches.{between, stretchOf};
 ghost use Rattle.message.specs.Plain.{plainOf};
-ghost use Rattle.mt515.specs.Reading.{verdictOf, placesOf};
+ghost use Rattle.mt515.specs.Reading.{verdictOf, keptOf};
 ghost use Rattle.plain.specs.Asking.{askingOf, askedOver};
 
 // What asking for a plain form answers: 0 and the length of the plain form, or the number and line of the refusal and 0.
@@ -44,23 +44,14 @@ fn move_in(message: &[u8], starts: &mut [usize], ends: &mut [usize], slot: usize
 // The plain form of an accepted message, into a buffer that has room for it. It is put from the message's own stretches, of which the
 // price's and the par's are moved in, with the bytes of the header, the table and the slots.
 fn compose(buf: &mut [u8], message: &[u8], body: Body) -> usize
-    requires { ⌜ (body ≡ placesOf (now message)) × (verdictOf (now message) .number ≡ 0) × (length (plainOf (now message)) ≤ length (now buf)) ⌝ }
+    requires { ⌜ (body ≡ keptOf (now message)) × (verdictOf (now message) .number ≡ 0) × (length (plainOf (now message)) ≤ length (now buf)) ⌝ }
     ensures { λ r. ⌜ (r ≡ after (now (buf .entry)) 0 (plainOf (now (message .entry)))) × (now (buf .exit) ≡ placed (now (buf .entry)) 0 (plainOf (now (message .entry)))) ⌝ }
 {
     let mut starts = body.starts;
     let mut ends = body.ends;
     move_in(message, &mut starts, &mut ends, 9);
     move_in(message, &mut starts, &mut ends, 18);
-    writer::put_message(
-        buf,
-        &table::HEADER,
-        &table::TABLE,
-        &table::SLOTS,
-        &values::OPTIONAL,
-        message,
-        &starts,
-        &ends,
-    )
+    message::put(buf, message, &starts, &ends)
 }
 
 // Writes the plain form of a message into a lent buffer: the message is read, and the plain form of an accepted one composed elsewhere,
@@ -68,7 +59,7 @@ fn compose(buf: &mut [u8], message: &[u8], body: Body) -> usize
 pub fn plain(message: &[u8], buf: &mut [u8]) -> Asking
     ensures { λ r. ⌜ (r ≡ askingOf (now (message .entry)) (length (now (buf .entry)))) × (now (buf .exit) ≡ askedOver (now (message .entry)) (now (buf .entry))) ⌝ }
 {
-    let body = mt515::places(message);
+    let body = mt515::kept(message);
     let verdict = body.verdict;
     if verdict.number != 0 {
         return Asking {

@@ -23,7 +23,7 @@ returns c =
     let o = c .before .before in
     let a = o .before .before .before .before .before .before .before .before .before .args in
     let l : Lent = lent (a .slots .now) (a .optional .now) (a .text .now) (a .starts .now) (a .ends .now) in
-    edge-past (behindAt l) (partsAt l) (a .rows .now) (a .row) (a .many) (a .buf .now) (a .at) (o .before .before .before .before .before .before .before .before .before .pre .0) (o .before .before .before .before .before .before .before .before .before .pre .1) (o .before .before .before .before .before .before .before .before .before .pre .2) _
+    edge-past (behindAt l) (partsAt l) (a .rows .now) (a .row) (a .here .many) (a .buf .now) (a .here .at) (o .before .before .before .before .before .before .before .before .before .pre .0) (o .before .before .before .before .before .before .before .before .before .pre .1) (o .before .before .before .before .before .before .before .before .before .pre .2) _
     (o .is-open .ensures) (not-true _ (c .before .if1 .taken)) _ (c .deeper .ensures)
 
 row-text-requires : tie.Need-row-text-requires
@@ -40,7 +40,7 @@ returns-2 c =
     let o = c .before .before .before .before .before .before in
     let a = o .before .before .before .before .before .before .before .before .before .args in
     let l : Lent = lent (a .slots .now) (a .optional .now) (a .text .now) (a .starts .now) (a .ends .now) in
-    edge-on (behindAt l) (partsAt l) (a .rows .now) (a .row) (a .many) (a .buf .now) (a .at) (o .before .before .before .before .before .before .before .before .before .pre .0) (o .before .before .before .before .before .before .before .before .before .pre .1) (o .before .before .before .before .before .before .before .before .before .pre .2) _
+    edge-on (behindAt l) (partsAt l) (a .rows .now) (a .row) (a .here .many) (a .buf .now) (a .here .at) (o .before .before .before .before .before .before .before .before .before .pre .0) (o .before .before .before .before .before .before .before .before .before .pre .1) (o .before .before .before .before .before .before .before .before .before .pre .2) _
     (o .is-open .ensures) (not-false _ (c .before .before .before .before .before .if1 .left)) _ (c .before .before .before .row-text .ensures) _ _ (c .before .before .put-edge .ensures)
 
 pub put-block-spec : {M : Type 1} → statement M

@@ -38,7 +38,7 @@ returns c =
     let f = c .before .before .before in
     let a = f .before .before .before .before .before .before .before .before .before .before .before .args in
     let l : Lent = lent (a .slots .now) (a .optional .now) (a .text .now) (a .starts .now) (a .ends .now) in
-    held-past (behindAt l) (partsAt l) (a .rows .now) (a .row) (a .many) (a .buf .now) (a .at) (f .before .before .before .before .before .before .before .before .before .before .before .pre .0) (f .before .before .before .before .before .before .before .before .before .before .before .pre .1) (f .front .result .now) (f .before .value-of .result .now)
+    held-past (behindAt l) (partsAt l) (a .rows .now) (a .row) (a .here .many) (a .buf .now) (a .here .at) (f .before .before .before .before .before .before .before .before .before .before .before .pre .0) (f .before .before .before .before .before .before .before .before .before .before .before .pre .1) (f .front .result .now) (f .before .value-of .result .now)
     (rw (← f .before .value-of .ensures, ← f .front .ensures)) _ (c .before .before .has-line .ensures) (not-true _ (c .before .if1 .taken)) _ (c .deeper .ensures)
 
 put-first-requires : tie.Need-put-first-requires
@@ -59,7 +59,7 @@ returns-2 c =
     let f = p .before .before .before .before in
     let a = f .before .before .before .before .before .before .before .before .before .before .before .args in
     let l : Lent = lent (a .slots .now) (a .optional .now) (a .text .now) (a .starts .now) (a .ends .now) in
-    held-on (behindAt l) (partsAt l) (a .rows .now) (a .row) (a .many) (a .buf .now) (a .at) (f .before .before .before .before .before .before .before .before .before .before .before .pre .0) (f .before .before .before .before .before .before .before .before .before .before .before .pre .1) (f .front .result .now) (f .before .value-of .result .now)
+    held-on (behindAt l) (partsAt l) (a .rows .now) (a .row) (a .here .many) (a .buf .now) (a .here .at) (f .before .before .before .before .before .before .before .before .before .before .before .pre .0) (f .before .before .before .before .before .before .before .before .before .before .before .pre .1) (f .front .result .now) (f .before .value-of .result .now)
     (rw (← f .before .value-of .ensures, ← f .front .ensures)) _ (p .before .before .before .has-line .ensures) (not-false _ (p .before .before .if1 .left))
     (rw (← f .before .value-of .ensures, ← f .front .ensures)) _ _ (p .put-first .ensures) _ (c .before .before .before .row-text .ensures) _ _ (c .before .before .put-line .ensures)
 

@@ -1,10 +1,9 @@
 -- `fill::put_rows` meets its contract. Assumes nothing.
 use Prim.Native.Nat.{_-_}
-use mathlib.Core.Path.{refl}
 use native.Mathlib.Omega.{arith}
 use borrow.Author.Needs.{needs}
 use Rattle.fill.specs.Filling.{Lent, lent, behindAt, partsAt, filling}
-use Rattle.fill.proofs.Rows.{Same, rows-more, rows-done}
+use Rattle.fill.proofs.Rows.{Same, rows-begun, rows-more, rows-done}
 use Rattle.fill.proofs.put_rows.Statement.{statement}
 use Rattle.fill.proofs.put_rows.Tie as tie
 
@@ -15,7 +14,7 @@ abbrev μ-loop : tie.MeasureT-loop
 μ-loop buf₀ at rows slots optional text starts ends count here₀ row₀ buf here row = count - row
 
 loop-holds : tie.Need-loop-holds Inv-loop μ-loop
-loop-holds c = (refl, refl, omega arith, refl)
+loop-holds c = rows-begun _ _ _ _ _
 
 put-next-requires : tie.Need-put-next-requires Inv-loop μ-loop
 put-next-requires c κs = search needs

@@ -1,17 +1,6 @@
 -- `plain::compose` meets its contract: what is lent is the message itself, with the places of its values. Assumes nothing.
-use mathlib.Core.Path.{_≡_, refl}
+use mathlib.Core.Path.{_≡_}
 use lib.ListN.{length}
-use Rattle.text.specs.Bytes.{bytes, parts}
-use Rattle.forms.specs.Slots.{reaches, lineIn, textIn, wordsIn, formOf, formIn, slotAt}
-use Rattle.layout.specs.Rows.{rowOf, keyOf, firstRow, rowsOf}
-use Rattle.sheets.specs.Trees.{fieldRows, memberRows, rowsIn, tableOf}
-use Rattle.sheets.specs.Slots.{fieldSlots, ownSlots, memberSlots, slotsOf, firstSlots, mustSlots}
-use Rattle.sheets.specs.Sheets.{has}
-use Rattle.format.specs.Format.{optional}
-use Rattle.format.proofs.Tests.{every}
-use Rattle.writer.proofs.Messages.{optionalIn}
-use Rattle.table.specs.Table.{header, slots}
-use Rattle.table.specs.Tree.{general, pool, details, tree}
 use Rattle.plain.proofs.Places.{put-plain}
 use borrow.Author.Needs.{needs}
 use Rattle.plain.proofs.compose.Statement.{statement}
@@ -42,41 +31,28 @@ slice-aggregate-move-in-4 c = search needs
 move-in-requires-2 : tie.Need-move-in-requires-2
 move-in-requires-2 c κs = search needs
 
-slice-aggregate-put-message : tie.Need-slice-aggregate-put-message
-slice-aggregate-put-message c = search needs
+slice-aggregate-put : tie.Need-slice-aggregate-put
+slice-aggregate-put c = search needs
 
-slice-aggregate-put-message-2 : tie.Need-slice-aggregate-put-message-2
-slice-aggregate-put-message-2 c = search needs
+slice-aggregate-put-2 : tie.Need-slice-aggregate-put-2
+slice-aggregate-put-2 c = search needs
 
-slice-aggregate-put-message-3 : tie.Need-slice-aggregate-put-message-3
-slice-aggregate-put-message-3 c = search needs
-
-slice-aggregate-put-message-4 : tie.Need-slice-aggregate-put-message-4
-slice-aggregate-put-message-4 c = search needs
-
-slice-aggregate-put-message-5 : tie.Need-slice-aggregate-put-message-5
-slice-aggregate-put-message-5 c = search needs
-
-slice-aggregate-put-message-6 : tie.Need-slice-aggregate-put-message-6
-slice-aggregate-put-message-6 c = search needs
-
-put-message-requires : tie.Need-put-message-requires
-put-message-requires c κs = search needs
+put-requires : tie.Need-put-requires
+put-requires c κs = search needs
 
 same-length : tie.Need-same-length
 same-length c = search needs
 
 returns : tie.Need-returns
-unfolding bytes parts reaches lineIn textIn wordsIn formOf formIn slotAt header slots rowOf keyOf firstRow rowsOf tableOf tree general pool details rowsIn memberRows fieldRows every optionalIn optional slotsOf memberSlots ownSlots fieldSlots mustSlots firstSlots has
 returns c =
     let p = c .before .before in
-    let b = p .before .before .before .before .before .before .before .before .before .before in
+    let b = p .before .before .before .before .before .before in
     let a = b .before .before .before .before .before in
     let s = a .before .before .before .before .before .before .before in
     let l : length (s .args .body .starts) ≡ 40 = starts-many s in
     let e : length (s .args .body .ends) ≡ 40 = ends-many s in
     put-plain (s .args .message .now) (s .pre .1) (s .args .body) (s .pre .0) l e _ _ _ _ (a .move-in .ensures .0) (a .move-in .ensures .1) (b .move-in2 .ensures .0) (b .move-in2 .ensures .1)
-    (s .args .buf .now) _ _ _ (p .put-message .ensures) (s .pre .2) refl refl refl refl
+    (s .args .buf .now) (p .put .ensures) (s .pre .2)
 
 pub compose-spec : {M : Type 1} → statement M
 compose-spec =
@@ -88,12 +64,8 @@ compose-spec =
     slice-aggregate-move-in-3
     slice-aggregate-move-in-4
     move-in-requires-2
-    slice-aggregate-put-message
-    slice-aggregate-put-message-2
-    slice-aggregate-put-message-3
-    slice-aggregate-put-message-4
-    slice-aggregate-put-message-5
-    slice-aggregate-put-message-6
-    put-message-requires
+    slice-aggregate-put
+    slice-aggregate-put-2
+    put-requires
     same-length
     returns)

@@ -10,21 +10,21 @@ use borrow.Author.Needs.{needs}
 use Rattle.plain.proofs.plain.Statement.{statement}
 use Rattle.plain.proofs.plain.Tie as tie
 
-places-requires : tie.Need-places-requires
-places-requires c κs = search needs
+kept-requires : tie.Need-kept-requires
+kept-requires c κs = search needs
 
 returns : tie.Need-returns
-returns c = turned-away _ _ (c .before .before .before .places .ensures) _ (c .if1 .taken)
+returns c = turned-away _ _ (c .before .before .before .kept .ensures) _ (c .if1 .taken)
 
 -- the message is accepted from there on
 good : (c : tie.Else1) → verdictOf (c .before .before .before .before .before .before .args .message .now) .number ≡ 0
-good c = accepted-is _ _ (c .before .before .before .places .ensures) (c .if1 .left)
+good c = accepted-is _ _ (c .before .before .before .kept .ensures) (c .if1 .left)
 
 slice-aggregate-compose : tie.Need-slice-aggregate-compose
 slice-aggregate-compose c = search needs
 
 compose-requires : tie.Need-compose-requires
-compose-requires c κs = let z = good (c .before) in (c .before .before .before .before .places .ensures, z, plain-most _ z)
+compose-requires c κs = let z = good (c .before) in (c .before .before .before .before .kept .ensures, z, plain-most _ z)
 
 -- what was composed is as long as the plain form
 long : (c : tie.After-compose) → c .compose .result ≡ length (plainOf (c .before .before .before .before .before .before .before .before .args .message .now))
@@ -64,7 +64,7 @@ pub plain-spec : {M : Type 1} → statement M
 plain-spec =
     tie.close
     (tie.spec
-    places-requires
+    kept-requires
     returns
     slice-aggregate-compose
     compose-requires
