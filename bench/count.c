@@ -1,4 +1,4 @@
-/* count.c: calls an entry of the project, or of the second program, on one message, so many times and nothing else, so that
+/* count.c: reads one message with the project and the second program, and then calls an entry of one of them so many times, so that
  * `bench/count` can tell what a call costs from the instructions of two runs. The message comes from standard input.
  * Usage: count ENTRY TIMES, TIMES being one digit */
 #include "mt515.h"
@@ -39,9 +39,17 @@ static int first_next(void)
     return number;
 }
 
+/* The record of the message, which was read before. */
+static int first_write(void)
+{
+    size_t written;
+    return mt515_write(record, out, sizeof out, &written);
+}
+
 static int second_program_read(void) { return second_read(message, length, &second_record).number; }
 static int second_program_plain(void) { return second_plain(message, length, out, sizeof out).number; }
 static int second_program_field(void) { return second_field(message, length, MT515_SLOT_NARRATIVE).length == 0; }
+static int second_program_write(void) { return second_write(&second_record, out, sizeof out).number; }
 static int second_program_next(void) { return second_next(message, length, 0, &second_record).answer.number; }
 
 static const struct {
@@ -49,8 +57,9 @@ static const struct {
     int (*call)(void);
 } entries[] = {
     { "mt515_read", first_read }, { "mt515_plain", first_plain }, { "mt515_field", first_field }, { "mt515_next", first_next },
+    { "mt515_write", first_write },
     { "second_read", second_program_read }, { "second_plain", second_program_plain }, { "second_field", second_program_field },
-    { "second_next", second_program_next },
+    { "second_next", second_program_next }, { "second_write", second_program_write },
 };
 
 int main(int count, char **words)
@@ -63,7 +72,7 @@ int main(int count, char **words)
         return 2;
     }
     length = fread(message, 1, sizeof message, stdin);
-    int refused = 0;
+    int refused = first_read() | second_program_read();
     for (int times = words[2][0] - '0'; times > 0; times--)
         refused |= entries[which].call();
     if (refused)
