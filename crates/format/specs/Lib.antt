@@ -1,5 +1,6 @@
 pub mod Format
 pub mod Reading
+pub mod Kept
 pub mod Passing
 pub mod Glancing
 pub mod Lawful

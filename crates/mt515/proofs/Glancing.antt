@@ -20,6 +20,7 @@ use Rattle.measure.specs.declared.Width.{Width}
 use Rattle.measure.specs.declared.Width.the-variants.{Is}
 use Rattle.glance.specs.Glance.{Says}
 use Rattle.format.specs.Reading as Any
+use Rattle.format.specs.Kept as Kept
 use Rattle.format.specs.Glancing.{GlancedIn}
 use Rattle.format.proofs.Glancing.{tables-clean, glance-takes}
 use Rattle.table.specs.Table.{header, slotOf}
@@ -78,7 +79,7 @@ module _ (s : List ℕ) (end : ℕ) (is : end ≡ 0 + length (pieceOf (drop 0 s)
 -- what was taken of a message, by how it is read
 pub kept-is : (m : List ℕ) (r : Reading) (b : Body) → r ≡ readOf m → b ≡ takeOf (tableOf tree) slotOf header m
     → cond (eqb (r .number) 0) b (placeless (record { number = r .number; line = r .line })) ≡ keptOf m
-unfolding keptOf readOf Any.readOf Any.reading
+unfolding Kept.keptOf readOf Any.readOf Any.reading
 kept-is m r b e t =
     let n : r .number ≡ verdictOf m .number = ap (λ (x : Reading). x .number) e in
     let l : r .line ≡ verdictOf m .line = ap (λ (x : Reading). x .line) e in

@@ -2,18 +2,13 @@
 -- pass; then 13 to 17 in that order. Beside a refusal stands the blank record. It is what format's specs/Reading says of any message
 -- type.
 use Prim.Native.Nat.{ℕ}
-use mathlib.Core.Bool.{cond}
 use mathlib.Core.List.{List}
-use lib.Dec.{eqb}
 use lib.ListN.{length}
 use Rattle.lines.specs.declared.Verdict.{Verdict}
 use Rattle.pieces.specs.Pieces.{pieceOf}
-use Rattle.sheets.specs.Trees.{tableOf}
 use Rattle.walk.specs.declared.Body.{Body}
-use Rattle.reader.specs.Take.{placeless, takeOf}
-use Rattle.table.specs.Table.{header, slotOf}
-use Rattle.table.specs.Tree.{tree}
 use Rattle.format.specs.Reading as Any
+use Rattle.format.specs.Kept as Kept
 use Rattle.trade.specs.declared.Trade.{Trade}
 use Rattle.values.specs.Mt515.{mt515}
 use Rattle.mt515.specs.declared.Reading.{Reading}
@@ -37,6 +32,6 @@ judged value = told (Any.reading (mt515 .blank) (Any.rulesOf mt515 value) (mt515
 unfoldable pub frontOf : List ℕ → Front
 frontOf s = record { reading = readOf (pieceOf s); length = length (pieceOf s) }
 
--- where the values of an accepted message stand, as the passes keep them; a refusal keeps no places
-unfoldable pub keptOf : List ℕ → Body
-keptOf m = let v = verdictOf m in cond (eqb (v .number) 0) (takeOf (tableOf tree) slotOf header m) (placeless v)
+-- where the values of an accepted message stand; a refusal keeps no places
+abbrev pub keptOf : List ℕ → Body
+keptOf m = Kept.keptOf mt515 m

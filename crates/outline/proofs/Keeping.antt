@@ -36,6 +36,7 @@ use Rattle.reader.specs.Header.{headPass, startsFrom, endsFrom, headStarts, hea
 use Rattle.reader.specs.Take.{placeless, takeOf}
 use Rattle.reader.proofs.Laws.{taken-is}
 use Rattle.format.specs.Reading as Any
+use Rattle.format.specs.Kept as Kept
 use Rattle.format.specs.Lawful.{Lawful}
 use Rattle.format.specs.Field as AnyField
 use Rattle.format.proofs.Tests.{every}
@@ -323,13 +324,13 @@ module _ (m : List ℕ) (b : Body) (is : b ≡ Mt.keptOf m) where
   Handed = record { number = b .verdict .number; line = b .verdict .line; starts = startsIn (b .starts) (b .ends); ends = endsIn (b .ends) } ≡ outlineOf m
 
   accepted-handed : Mt.verdictOf m .number ≡ 0 → Handed
-  unfolding Mt.keptOf Mt.readOf Any.readOf Any.reading outlineOf startsIn endsIn pass refused
+  unfolding Kept.keptOf Mt.readOf Any.readOf Any.reading outlineOf startsIn endsIn pass refused
   accepted-handed z =
       let k : b ≡ record { verdict = pass; starts = keptStarts m z; ends = keptEnds m z } = is ∙ rw z (body-is m z) in
       rw (k, z, accepted-line mt515 layout laws m z, same-fields _ (startIn m) (λ f h. both m z f h .0), same-fields _ (endIn m) (λ f h. both m z f h .1))
 
   refused-handed : (Mt.verdictOf m .number ≡ 0 → ⊥) → Handed
-  unfolding Mt.keptOf Mt.readOf Any.readOf Any.reading outlineOf startsIn endsIn placeless
+  unfolding Kept.keptOf Mt.readOf Any.readOf Any.reading outlineOf startsIn endsIn placeless
   refused-handed z =
       let k : b ≡ placeless (Mt.verdictOf m) = is ∙ rw (ne-eqb (Mt.verdictOf m .number) 0 z) in
       rw (k, same-fields _ (startIn m) (λ f h. nothing m z f h .0), same-fields _ (endIn m) (λ f h. nothing m z f h .1))

@@ -16,6 +16,7 @@ use Rattle.walk.specs.declared.Body.{Body}
 use Rattle.reader.specs.Take.{placeless, takeOf}
 use Rattle.reader.proofs.Laws.{passOf, take-verdict}
 use Rattle.format.specs.Reading as Any
+use Rattle.format.specs.Kept as Kept
 use Rattle.format.specs.Demands.{Accepted, heldIn}
 use Rattle.format.proofs.Asking as Proved
 use Rattle.format.proofs.Demands.{judged, plainly}
@@ -54,7 +55,7 @@ module _ (m : List ℕ) (r : Body) (is : r ≡ keptOf m) where
       ∙ then-zero (passOf (tableOf tree) slotOf header m) (Any.rulesOf mt515 (Any.valueOn mt515 m (takenIn (Any.bodyOf mt515 m)))) (ap number (rows-verdict mt515 good m) ∙ z) .0
 
   pub refused-is : (r .verdict .number ≡ 0 → ⊥) → r .verdict ≡ verdictOf m
-  unfolding keptOf placeless
+  unfolding Kept.keptOf placeless
   refused-is h = ap (λ (x : Body). x .verdict) is ∙ on (eqb (verdictOf m .number) 0) refl
     where
       on : (b : Bool) → eqb (verdictOf m .number) 0 ≡ b → cond b taken (placeless (verdictOf m)) .verdict ≡ verdictOf m
@@ -64,7 +65,7 @@ module _ (m : List ℕ) (r : Body) (is : r ≡ keptOf m) where
       on false e = refl
 
   pub accepted-is : r .verdict .number ≡ 0 → verdictOf m .number ≡ 0
-  unfolding keptOf placeless
+  unfolding Kept.keptOf placeless
   accepted-is z = on (eqb (verdictOf m .number) 0) refl (ap (λ (x : Body). x .verdict .number) (sym is) ∙ z)
     where
       on : (b : Bool) → eqb (verdictOf m .number) 0 ≡ b → cond b taken (placeless (verdictOf m)) .verdict .number ≡ 0 → verdictOf m .number ≡ 0

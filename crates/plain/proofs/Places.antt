@@ -19,6 +19,7 @@ use Rattle.walk.specs.declared.Body.{Body}
 use Rattle.reader.specs.Take.{takeOf}
 use Rattle.fill.proofs.Runs.{Put, Run}
 use Rattle.writer.specs.Parts.{partsFor}
+use Rattle.format.specs.Kept as Kept
 use Rattle.format.specs.Demands.{heldIn}
 use Rattle.format.proofs.Tests.{every, isAmountForm}
 use Rattle.format.proofs.Laws.{everySlot}
@@ -110,7 +111,7 @@ moved m starts ends starts' ends' k l e a b s h = rw (a, b) (moved-at m starts e
 
 module _ (m : List ℕ) (z : verdictOf m .number ≡ 0) (r : Body) (is : r ≡ keptOf m) (l : length (r .starts) ≡ slotCount) (e : length (r .ends) ≡ slotCount) where
   body-is : r ≡ takeOf (tableOf tree) slotOf header m
-  unfolding keptOf
+  unfolding Kept.keptOf
   body-is = is ∙ rw z
 
   module _ (s1 e1 s2 e2 : List ℕ) (a1 : s1 ≡ set (r .starts) 9 (shortest-start m (r .starts) (r .ends) 9)) (b1 : e1 ≡ set (r .ends) 9 (shortest-end m (r .starts) (r .ends) 9))
