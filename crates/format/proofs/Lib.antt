@@ -21,3 +21,4 @@ pub mod Batch
 pub mod Specimen
 pub mod Cases
 pub mod Lent
+pub mod BySlot

@@ -5,6 +5,7 @@ pub mod Passing
 pub mod Glancing
 pub mod Lawful
 pub mod Writing
+pub mod Writable
 pub mod Plain
 pub mod Asking
 pub mod Demands

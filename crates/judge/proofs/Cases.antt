@@ -16,7 +16,8 @@ use Rattle.sheets.specs.Sheets.{has}
 use Rattle.table.specs.Table.{slots, slotOf}
 use Rattle.table.specs.Tree.{general, pool, details, tree}
 use Rattle.values.specs.Values.{kindWord, sideWord, serviceWord, periodText, reasonText, narrative, values, valueOf}
-use Rattle.values.specs.Writable.{prepForm, periodForm, reasonForm, fitted, tests, hold, inForm}
+use Rattle.format.specs.Writable.{fitted, hold}
+use Rattle.values.specs.Writable.{prepForm, periodForm, reasonForm, tests, inForm}
 use Rattle.values.specs.Cases.{b}
 use Rattle.format.specs.Writing.{judgeOf}
 use Rattle.judge.specs.Cases.{trade, cases, Answered}

@@ -25,8 +25,9 @@ use Rattle.lines.proofs.Laws.{stop, go}
 use Rattle.kinds.specs.Kinds.{recordPass}
 use Rattle.kinds.proofs.Rules.{stops, goes-on, broken, kept as passed}
 use Rattle.values.specs.Values.{valueOf}
-use Rattle.values.specs.Writable.{fitted, tests, hold, inForm}
-use Rattle.values.proofs.Fields.{fitted-must, fitted-may}
+use Rattle.format.specs.Writable.{hold}
+use Rattle.values.specs.Writable.{fitted, tests, inForm}
+use Rattle.format.proofs.BySlot.{fitted-must, fitted-may}
 use Rattle.judge.specs.Judging.{judgeOf}
 
 -- ---- the widths of the code's texts are those of their slots
@@ -51,20 +52,20 @@ pub widths : Widths
 unfolding slotOf slots slotsOf memberSlots ownSlots fieldSlots mustSlots firstSlots tree general pool-block details has
 widths =
     record {
-      seme = λ x. fitted-must 1 1 16 x refl refl;
-      mast = λ x. fitted-may 4 16 x refl refl;
-      prev = λ x. fitted-may 5 16 x refl refl;
-      list = λ x. fitted-may 6 16 x refl refl;
-      buyer = λ x. fitted-must 12 4 4 x refl refl;
-      buyer-contra = λ x. fitted-may 13 16 x refl refl;
-      buyer-trader = λ x. fitted-may 14 20 x refl refl;
-      seller = λ x. fitted-must 15 4 4 x refl refl;
-      seller-contra = λ x. fitted-may 16 16 x refl refl;
-      seller-trader = λ x. fitted-may 17 20 x refl refl;
-      cusip = λ x. fitted-must 19 9 9 x refl refl;
-      pool = λ x. fitted-may 20 9 x refl refl;
-      password = λ x. fitted-must 28 0 12 x refl refl;
-      sender = λ x. fitted-must 29 1 8 x refl refl;
+      seme = λ x. fitted-must tree slotOf 1 1 16 x refl refl;
+      mast = λ x. fitted-may tree slotOf 4 16 x refl refl;
+      prev = λ x. fitted-may tree slotOf 5 16 x refl refl;
+      list = λ x. fitted-may tree slotOf 6 16 x refl refl;
+      buyer = λ x. fitted-must tree slotOf 12 4 4 x refl refl;
+      buyer-contra = λ x. fitted-may tree slotOf 13 16 x refl refl;
+      buyer-trader = λ x. fitted-may tree slotOf 14 20 x refl refl;
+      seller = λ x. fitted-must tree slotOf 15 4 4 x refl refl;
+      seller-contra = λ x. fitted-may tree slotOf 16 16 x refl refl;
+      seller-trader = λ x. fitted-may tree slotOf 17 20 x refl refl;
+      cusip = λ x. fitted-must tree slotOf 19 9 9 x refl refl;
+      pool = λ x. fitted-may tree slotOf 20 9 x refl refl;
+      password = λ x. fitted-must tree slotOf 28 0 12 x refl refl;
+      sender = λ x. fitted-must tree slotOf 29 1 8 x refl refl;
     }
 
 abbrev pub partyTests : Party → Bool

@@ -8,7 +8,8 @@ ghost use mathlib.Core.Path.{_≡_};
 ghost use mathlib.Core.List.{[], _∷_};
 ghost use lib.ListN.{take, drop};
 ghost use Rattle.text.specs.Texts.{inForm as textForm};
-ghost use Rattle.values.specs.Writable.{prepForm, periodForm, reasonForm, tests, hold, inForm};
+ghost use Rattle.format.specs.Writable.{hold};
+ghost use Rattle.values.specs.Writable.{prepForm, periodForm, reasonForm, tests, inForm};
 
 // Absent is date 0 and time 0, and nothing else.
 fn prep_form(prep: Moment) -> bool

@@ -39,7 +39,7 @@ use Rattle.table.specs.Tree.{general, pool, details, tree}
 use Rattle.values.specs.Mt515.{mt515}
 use Rattle.values.specs.Values.{serviceWord, periodText, reasonText, narrative, values, valueOf}
 use Rattle.values.specs.Writable.{periodForm, tests, inForm}
-use Rattle.values.proofs.Fields.{_⨾_}
+use Rattle.format.proofs.BySlot.{_⨾_}
 use Rattle.values.proofs.Narratives.{period-short, reason-short}
 use Rattle.values.proofs.Widths.{service-long, narrative-is}
 use Rattle.values.proofs.Laws.{test, values-held}

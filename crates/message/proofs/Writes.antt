@@ -25,8 +25,8 @@ use Rattle.table.specs.Tree.{tree}
 use Rattle.table.proofs.Tables.{slots-are}
 use Rattle.values.specs.Mt515.{mt515}
 use Rattle.values.specs.Values.{values, valueOf}
-use Rattle.values.specs.Places.{ends}
-use Rattle.values.proofs.Places.{stretch-held}
+use Rattle.fill.specs.Places.{ends}
+use Rattle.fill.proofs.Places.{stretch-held}
 use Rattle.judge.specs.Judging.{judgeOf}
 use Rattle.message.specs.Writing.{writingOf, writtenOver, writable}
 

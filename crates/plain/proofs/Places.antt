@@ -33,7 +33,7 @@ use Rattle.table.specs.Table.{header, slots, slotOf}
 use Rattle.table.specs.Tree.{general, pool, details, tree}
 use Rattle.values.specs.Mt515.{mt515}
 use Rattle.values.specs.Values.{values, valueOf}
-use Rattle.values.proofs.Fields.{Each, each-at, _⨾_}
+use Rattle.format.proofs.BySlot.{Each, each-at, _⨾_}
 use Rattle.values.proofs.Laid.{layout}
 use Rattle.mt515.specs.Reading.{verdictOf, keptOf}
 use Rattle.message.specs.Plain.{plainOf}

@@ -13,6 +13,7 @@ use Rattle.calendar.specs.declared.Moment.{Moment}
 use Rattle.calendar.specs.declared.DateRead.{DateRead}
 use Rattle.calendar.specs.declared.MomentRead.{MomentRead}
 use Rattle.forms.specs.Forms.{wordAt}
+use Rattle.typed.specs.Typed.{amountOr0, dateOr0, momentOr0}
 use Rattle.forms.specs.Narrative.{reasonIn}
 use Rattle.trade.specs.Narrative.{serviceOf, periodOf}
 use Rattle.trade.specs.declared.Kind.{Kind}
@@ -22,7 +23,7 @@ use Rattle.trade.specs.declared.Period.{Period}
 use Rattle.trade.specs.declared.Party.{Party}
 use Rattle.trade.specs.declared.Trade.{Trade}
 
--- ---- what a value means; the first of its list, or zero, where it is none
+-- ---- what a word means; the first of its list, where it is none
 
 abbrev pub kinds : List (List ℕ)
 kinds = bytes "INST" ∷ bytes "CANC" ∷ bytes "MDFC" ∷ bytes "TDDK" ∷ []
@@ -35,18 +36,6 @@ sides = bytes "BUYI" ∷ bytes "SELL" ∷ []
 
 unfoldable pub sideIn : List ℕ → Side
 sideIn v = getD (Side.Buyi ∷ Side.Sell ∷ []) (wordAt sides v) Side.Buyi
-
-abbrev pub amountOr0 : AmountRead → Amount
-amountOr0 (AmountRead.Good a) = a
-amountOr0 AmountRead.Wrong = nought
-
-abbrev pub dateOr0 : DateRead → Date
-dateOr0 (DateRead.Good d) = d
-dateOr0 DateRead.Wrong = record { 0 = 0 }
-
-abbrev pub momentOr0 : MomentRead → Moment
-momentOr0 (MomentRead.Good m) = m
-momentOr0 MomentRead.Wrong = record { date = record { 0 = 0 }; time = record { 0 = 0 } }
 
 -- ---- the record of a message, from the values of its slots. Slots are numbered as document 01 numbers its fields, from 1 to the
 -- narrative's; it does not number the password and the sender

@@ -4,22 +4,15 @@
 mod narrative;
 mod words;
 
-use amount::Amount;
-use amount::AmountRead;
 use amount::Par;
 use amount::Price;
 use calendar::Date;
-use calendar::DateRead;
 use calendar::Moment;
-use calendar::MomentRead;
 use calendar::Time;
 use text::Text;
 ghost use mathlib.Core.Path.{_≡_};
-ghost use Rattle.text.specs.Texts.{textOf};
-ghost use Rattle.amount.specs.Amounts.{amountRead};
-ghost use Rattle.calendar.specs.Dates.{dateRead, momentRead};
 ghost use Rattle.stretches.specs.Stretches.{stretchOf};
-ghost use Rattle.trade.specs.Records.{amountOr0, dateOr0, momentOr0, partyOf, tradeOf, blankTrade};
+ghost use Rattle.trade.specs.Records.{partyOf, tradeOf, blankTrade};
 ghost use Rattle.trade.specs.Parts.{detailsOf, securityOf};
 
 // The slots that are named; the others have the numbers of document 01's fields, of which the narrative is the last.
@@ -143,52 +136,6 @@ pub fn blank() -> Trade
     }
 }
 
-fn text_at<'a, 'b>(message: &'a [u8], starts: &'b [usize], ends: &'b [usize], slot: usize) -> Text
-    ensures { λ r. ⌜ r ≡ textOf (stretchOf (now (message .entry)) (now (starts .entry)) (now (ends .entry)) slot) ⌝ }
-{
-    Text::of(stretches::stretch(message, starts, ends, slot))
-}
-
-fn moment_at<'a, 'b>(
-    message: &'a [u8],
-    starts: &'b [usize],
-    ends: &'b [usize],
-    slot: usize,
-) -> Moment
-    ensures { λ r. ⌜ r ≡ momentOr0 (momentRead (stretchOf (now (message .entry)) (now (starts .entry)) (now (ends .entry)) slot)) ⌝ }
-{
-    match Moment::read(stretches::stretch(message, starts, ends, slot)) {
-        MomentRead::Good(moment) => moment,
-        MomentRead::Wrong => Moment {
-            date: Date(0),
-            time: Time(0),
-        },
-    }
-}
-
-fn date_at<'a, 'b>(message: &'a [u8], starts: &'b [usize], ends: &'b [usize], slot: usize) -> Date
-    ensures { λ r. ⌜ r ≡ dateOr0 (dateRead (stretchOf (now (message .entry)) (now (starts .entry)) (now (ends .entry)) slot)) ⌝ }
-{
-    match Date::read(stretches::stretch(message, starts, ends, slot)) {
-        DateRead::Good(date) => date,
-        DateRead::Wrong => Date(0),
-    }
-}
-
-fn amount_at<'a, 'b>(
-    message: &'a [u8],
-    starts: &'b [usize],
-    ends: &'b [usize],
-    slot: usize,
-) -> Amount
-    ensures { λ r. ⌜ r ≡ amountOr0 (amountRead (stretchOf (now (message .entry)) (now (starts .entry)) (now (ends .entry)) slot)) ⌝ }
-{
-    match Amount::read(stretches::stretch(message, starts, ends, slot)) {
-        AmountRead::Good(amount) => amount,
-        AmountRead::Wrong => Amount::ZERO,
-    }
-}
-
 // A party, from its three slots.
 fn party_at<'a, 'b>(
     message: &'a [u8],
@@ -201,9 +148,9 @@ fn party_at<'a, 'b>(
     ensures { λ r. ⌜ r ≡ partyOf (stretchOf (now (message .entry)) (now (starts .entry)) (now (ends .entry)) code) (stretchOf (now (message .entry)) (now (starts .entry)) (now (ends .entry)) reference) (stretchOf (now (message .entry)) (now (starts .entry)) (now (ends .entry)) trader) ⌝ }
 {
     Party {
-        code: text_at(message, starts, ends, code),
-        reference: text_at(message, starts, ends, reference),
-        trader: text_at(message, starts, ends, trader),
+        code: typed::text_at(message, starts, ends, code),
+        reference: typed::text_at(message, starts, ends, reference),
+        trader: typed::text_at(message, starts, ends, trader),
     }
 }
 
@@ -212,9 +159,9 @@ fn details_at<'a, 'b>(message: &'a [u8], starts: &'b [usize], ends: &'b [usize])
     ensures { λ r. ⌜ r ≡ detailsOf (tradeOf (stretchOf (now (message .entry)) (now (starts .entry)) (now (ends .entry)))) ⌝ }
 {
     Details {
-        trad: moment_at(message, starts, ends, 7),
-        sett: date_at(message, starts, ends, 8),
-        price: Price::of(amount_at(message, starts, ends, 9)),
+        trad: typed::moment_at(message, starts, ends, 7),
+        sett: typed::date_at(message, starts, ends, 8),
+        price: Price::of(typed::amount_at(message, starts, ends, 9)),
         side: words::side_in(stretches::stretch(message, starts, ends, 10)),
         kind: words::kind_in(stretches::stretch(message, starts, ends, 11)),
     }
@@ -226,9 +173,9 @@ fn security_at<'a, 'b>(message: &'a [u8], starts: &'b [usize], ends: &'b [usize]
 {
     let narrative = stretches::stretch(message, starts, ends, NARRATIVE);
     Security {
-        par: Par::of(amount_at(message, starts, ends, 18)),
-        cusip: text_at(message, starts, ends, 19),
-        pool: text_at(message, starts, ends, 20),
+        par: Par::of(typed::amount_at(message, starts, ends, 18)),
+        cusip: typed::text_at(message, starts, ends, 19),
+        pool: typed::text_at(message, starts, ends, 20),
         service: narrative::service_of(narrative),
         period: narrative::period_of(narrative),
         reason: Text::of(forms::narrative::reason_in(narrative)),
@@ -255,13 +202,13 @@ pub fn gather<'a, 'b>(message: &'a [u8], starts: &'b [usize], ends: &'b [usize])
         reason,
     } = security_at(message, starts, ends);
     Trade {
-        password: text_at(message, starts, ends, PASSWORD),
-        sender: text_at(message, starts, ends, SENDER),
-        seme: text_at(message, starts, ends, 1),
-        prep: moment_at(message, starts, ends, 3),
-        mast: text_at(message, starts, ends, 4),
-        prev: text_at(message, starts, ends, 5),
-        list: text_at(message, starts, ends, 6),
+        password: typed::text_at(message, starts, ends, PASSWORD),
+        sender: typed::text_at(message, starts, ends, SENDER),
+        seme: typed::text_at(message, starts, ends, 1),
+        prep: typed::moment_at(message, starts, ends, 3),
+        mast: typed::text_at(message, starts, ends, 4),
+        prev: typed::text_at(message, starts, ends, 5),
+        list: typed::text_at(message, starts, ends, 6),
         trad,
         sett,
         price,

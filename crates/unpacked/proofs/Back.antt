@@ -24,8 +24,11 @@ use Rattle.trade.specs.declared.Side.{Side}
 use Rattle.trade.specs.declared.Service.{Service}
 use Rattle.trade.specs.declared.Period.{Period}
 use Rattle.trade.specs.declared.Trade.{Trade}
-use Rattle.values.specs.Writable.{prepForm, periodForm, reasonForm, tests, hold, inForm}
-use Rattle.values.proofs.Fields.{fitted-form}
+use Rattle.format.specs.Writable.{hold}
+use Rattle.table.specs.Table.{slotOf}
+use Rattle.table.specs.Tree.{tree}
+use Rattle.values.specs.Writable.{prepForm, periodForm, reasonForm, tests, inForm}
+use Rattle.format.proofs.BySlot.{fitted-form}
 use Rattle.values.proofs.Laws.{test}
 use Rattle.judge.specs.Judging.{judgeOf}
 use Rattle.judge.specs.Cases.{cases}
@@ -287,20 +290,20 @@ module _ (t : Trade) (e : inForm t ≡ true) where
   form-texts : hold (map textFits (texts t)) ≡ true
   unfolding texts tests hold
   form-texts =
-      and-both (form-fits 0 20 (t .password) (fitted-form 28 _ (test t e 28)))
-      (and-both (form-fits 0 20 (t .sender) (fitted-form 29 _ (test t e 29)))
-      (and-both (form-fits 0 20 (t .seme) (fitted-form 1 _ (test t e 1)))
-      (and-both (form-fits 0 20 (t .mast) (fitted-form 4 _ (test t e 4)))
-      (and-both (form-fits 0 20 (t .prev) (fitted-form 5 _ (test t e 5)))
-      (and-both (form-fits 0 20 (t .list) (fitted-form 6 _ (test t e 6)))
-      (and-both (form-fits 0 20 (t .buyer .code) (fitted-form 12 _ (test t e 12)))
-      (and-both (form-fits 0 20 (t .buyer .reference) (fitted-form 13 _ (test t e 13)))
-      (and-both (form-fits 0 20 (t .buyer .trader) (fitted-form 14 _ (test t e 14)))
-      (and-both (form-fits 0 20 (t .seller .code) (fitted-form 15 _ (test t e 15)))
-      (and-both (form-fits 0 20 (t .seller .reference) (fitted-form 16 _ (test t e 16)))
-      (and-both (form-fits 0 20 (t .seller .trader) (fitted-form 17 _ (test t e 17)))
-      (and-both (form-fits 0 20 (t .cusip) (fitted-form 19 _ (test t e 19)))
-      (and-both (form-fits 0 20 (t .pool) (fitted-form 20 _ (test t e 20)))
+      and-both (form-fits 0 20 (t .password) (fitted-form tree slotOf 28 _ (test t e 28)))
+      (and-both (form-fits 0 20 (t .sender) (fitted-form tree slotOf 29 _ (test t e 29)))
+      (and-both (form-fits 0 20 (t .seme) (fitted-form tree slotOf 1 _ (test t e 1)))
+      (and-both (form-fits 0 20 (t .mast) (fitted-form tree slotOf 4 _ (test t e 4)))
+      (and-both (form-fits 0 20 (t .prev) (fitted-form tree slotOf 5 _ (test t e 5)))
+      (and-both (form-fits 0 20 (t .list) (fitted-form tree slotOf 6 _ (test t e 6)))
+      (and-both (form-fits 0 20 (t .buyer .code) (fitted-form tree slotOf 12 _ (test t e 12)))
+      (and-both (form-fits 0 20 (t .buyer .reference) (fitted-form tree slotOf 13 _ (test t e 13)))
+      (and-both (form-fits 0 20 (t .buyer .trader) (fitted-form tree slotOf 14 _ (test t e 14)))
+      (and-both (form-fits 0 20 (t .seller .code) (fitted-form tree slotOf 15 _ (test t e 15)))
+      (and-both (form-fits 0 20 (t .seller .reference) (fitted-form tree slotOf 16 _ (test t e 16)))
+      (and-both (form-fits 0 20 (t .seller .trader) (fitted-form tree slotOf 17 _ (test t e 17)))
+      (and-both (form-fits 0 20 (t .cusip) (fitted-form tree slotOf 19 _ (test t e 19)))
+      (and-both (form-fits 0 20 (t .pool) (fitted-form tree slotOf 20 _ (test t e 20)))
       (and-both (reason-fits (t .reason) (and-right (periodForm (t .period)) _ (test t e 21))) refl))))))))))))))
 
   form-numbers : hold (map numberFits (numbers t)) ≡ true

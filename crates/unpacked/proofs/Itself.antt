@@ -17,8 +17,11 @@ use Rattle.calendar.proofs.Laws.{date-small, time-small}
 use Rattle.trade.specs.declared.Party.{Party}
 use Rattle.trade.specs.declared.Period.{Period}
 use Rattle.trade.specs.declared.Trade.{Trade}
-use Rattle.values.specs.Writable.{prepForm, periodForm, reasonForm, tests, hold, inForm}
-use Rattle.values.proofs.Fields.{fitted-form}
+use Rattle.format.specs.Writable.{hold}
+use Rattle.table.specs.Table.{slotOf}
+use Rattle.table.specs.Tree.{tree}
+use Rattle.values.specs.Writable.{prepForm, periodForm, reasonForm, tests, inForm}
+use Rattle.format.proofs.BySlot.{fitted-form}
 use Rattle.values.proofs.Laws.{test}
 use Rattle.judge.proofs.Laws.{judge-zero}
 use Rattle.message.specs.Writing.{writable}
@@ -234,22 +237,22 @@ module _ (t : Trade) (form : inForm (capped t) ≡ true) where
   unfolding capped partyIn tests
   capped-itself =
       rw (
-        text-itself 0 20 (t .password) (fitted-form 28 _ (test (capped t) form 28)),
-        text-itself 0 20 (t .sender) (fitted-form 29 _ (test (capped t) form 29)),
-        text-itself 0 20 (t .seme) (fitted-form 1 _ (test (capped t) form 1)),
+        text-itself 0 20 (t .password) (fitted-form tree slotOf 28 _ (test (capped t) form 28)),
+        text-itself 0 20 (t .sender) (fitted-form tree slotOf 29 _ (test (capped t) form 29)),
+        text-itself 0 20 (t .seme) (fitted-form tree slotOf 1 _ (test (capped t) form 1)),
         prep-itself (t .prep) (test (capped t) form 3),
-        text-itself 0 20 (t .mast) (fitted-form 4 _ (test (capped t) form 4)),
-        text-itself 0 20 (t .prev) (fitted-form 5 _ (test (capped t) form 5)),
-        text-itself 0 20 (t .list) (fitted-form 6 _ (test (capped t) form 6)),
+        text-itself 0 20 (t .mast) (fitted-form tree slotOf 4 _ (test (capped t) form 4)),
+        text-itself 0 20 (t .prev) (fitted-form tree slotOf 5 _ (test (capped t) form 5)),
+        text-itself 0 20 (t .list) (fitted-form tree slotOf 6 _ (test (capped t) form 6)),
         moment-itself (t .trad) (test (capped t) form 7),
-        text-itself 0 20 (t .buyer .code) (fitted-form 12 _ (test (capped t) form 12)),
-        text-itself 0 20 (t .buyer .reference) (fitted-form 13 _ (test (capped t) form 13)),
-        text-itself 0 20 (t .buyer .trader) (fitted-form 14 _ (test (capped t) form 14)),
-        text-itself 0 20 (t .seller .code) (fitted-form 15 _ (test (capped t) form 15)),
-        text-itself 0 20 (t .seller .reference) (fitted-form 16 _ (test (capped t) form 16)),
-        text-itself 0 20 (t .seller .trader) (fitted-form 17 _ (test (capped t) form 17)),
-        text-itself 0 20 (t .cusip) (fitted-form 19 _ (test (capped t) form 19)),
-        text-itself 0 20 (t .pool) (fitted-form 20 _ (test (capped t) form 20)),
+        text-itself 0 20 (t .buyer .code) (fitted-form tree slotOf 12 _ (test (capped t) form 12)),
+        text-itself 0 20 (t .buyer .reference) (fitted-form tree slotOf 13 _ (test (capped t) form 13)),
+        text-itself 0 20 (t .buyer .trader) (fitted-form tree slotOf 14 _ (test (capped t) form 14)),
+        text-itself 0 20 (t .seller .code) (fitted-form tree slotOf 15 _ (test (capped t) form 15)),
+        text-itself 0 20 (t .seller .reference) (fitted-form tree slotOf 16 _ (test (capped t) form 16)),
+        text-itself 0 20 (t .seller .trader) (fitted-form tree slotOf 17 _ (test (capped t) form 17)),
+        text-itself 0 20 (t .cusip) (fitted-form tree slotOf 19 _ (test (capped t) form 19)),
+        text-itself 0 20 (t .pool) (fitted-form tree slotOf 20 _ (test (capped t) form 20)),
         period-itself (t .period) (and-left _ _ (test (capped t) form 21)),
         reason-itself (t .reason) (and-right (periodForm (periodOf (t .period))) _ (test (capped t) form 21)),
       )

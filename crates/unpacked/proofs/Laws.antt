@@ -13,7 +13,7 @@ use lib.Seq.{take-at, drop-at, drop-drop, length-take-le}
 use borrow.Author.Tests.{leb-true}
 use Rattle.text.specs.Bytes.{parts}
 use Rattle.text.proofs.Laws.{and-left, and-right, and-both}
-use Rattle.values.specs.Writable.{hold}
+use Rattle.format.specs.Writable.{hold}
 use Rattle.packed.specs.Packed.{numberBytes}
 use Rattle.unpacked.specs.Unpacked.{numberFrom}
 use Rattle.unpacked.specs.Back.{byteFits}

@@ -3,7 +3,7 @@
 use mathlib.Core.Path.{refl, sym, ap, _∙_}
 use native.Mathlib.Omega.{arith}
 use Rattle.trade.specs.Records.{nobody, never, blankTrade}
-use Rattle.values.specs.Writable.{hold}
+use Rattle.format.specs.Writable.{hold}
 use Rattle.message.proofs.Writes.{judged}
 use Rattle.packed.specs.Packed.{atMost, texts, momentPacked, numbers}
 use Rattle.unpacked.specs.Unpacked.{unpackedOf}

@@ -10,7 +10,7 @@ use Rattle.calendar.specs.declared.Moment.{Moment}
 use Rattle.trade.specs.Records.{blankTrade}
 use Rattle.trade.specs.declared.Period.{Period}
 use Rattle.trade.specs.declared.Trade.{Trade}
-use Rattle.values.specs.Writable.{hold}
+use Rattle.format.specs.Writable.{hold}
 use Rattle.message.specs.Writing.{writingOf, writtenOver, writable}
 use Rattle.packed.specs.Packed.{texts, numbers, packedOf}
 use Rattle.unpacked.specs.Unpacked.{unpackedOf}

@@ -31,9 +31,12 @@ use Rattle.sheets.proofs.Checks.{complete, allMembers, wholeMembers, solid, sol
 use Rattle.format.specs.Format.{mayLack, optional}
 use Rattle.format.specs.Reading.{rulesOf}
 use Rattle.format.specs.Writing.{behindIn}
+use Rattle.format.proofs.BySlot.{Each, _⨾_, each-at, hold-at, hold-all, no-contents, fitted-form, fitted-text, word-back}
 use Rattle.format.proofs.Tests.{every, every-at, number-form, tidied, amount-some}
 use Rattle.format.proofs.Laws.{everySlot, Filled, Held}
-use Rattle.trade.specs.Records.{kinds, sides, amountOr0, kindIn, sideIn, momentOr0, partyOf, tradeOf}
+use Rattle.typed.specs.Typed.{amountOr0, momentOr0}
+use Rattle.typed.proofs.Laws.{amount-held, date-held, moment-held}
+use Rattle.trade.specs.Records.{kinds, sides, kindIn, sideIn, partyOf, tradeOf}
 use Rattle.trade.specs.declared.Kind.{Kind}
 use Rattle.trade.specs.declared.Side.{Side}
 use Rattle.trade.specs.declared.Trade.{Trade}
@@ -42,9 +45,10 @@ use Rattle.kinds.proofs.Laws.{kinds-passes}
 use Rattle.table.specs.Table.{slots, header, slotOf}
 use Rattle.table.specs.Tree.{general, pool, details, tree}
 use Rattle.values.specs.Values.{kindWord, sideWord, narrative, values, valueOf}
+use Rattle.format.specs.Writable as Any
 use Rattle.values.specs.Writable.{prepForm, periodForm, reasonForm, fitted, tests, inForm}
 use Rattle.values.specs.Mt515.{mt515}
-use Rattle.values.proofs.Fields.{Each, _⨾_, each-at, hold-at, hold-all, no-contents, fitted-form, fitted-text, word-back, amount-held, date-held, moment-held, prep-back, prep-number, prep-held}
+use Rattle.values.proofs.Prep.{prep-back, prep-number, prep-held}
 use Rattle.values.proofs.Narratives.{narrative-short, told-parts, told-back, told-form}
 
 -- ---- one slot
@@ -57,7 +61,7 @@ filled : (slot : ℕ) (v : List ℕ) → formNumber (slotOf slot .form) v ≡ 0 
 filled slot v h = inr (number-form (slotOf slot) v ∙ h)
 
 text : (slot : ℕ) (x : Text) → fitted slot x ≡ true → Filled mt515 slot (contents x)
-unfolding fitted optional
+unfolding Any.fitted optional
 text slot x e =
     or-case (mayLack tree slot && eqb (x .len) 0) _ (and-right (textForm 0 20 x) _ e)
     (λ a. inl (no-contents x (eqb-true _ _ (and-right (mayLack tree slot) _ a)), and-left _ _ a))
@@ -147,27 +151,27 @@ module _ (t : Trade) (form : inForm t ≡ true) where
   record-back =
       let told = told-parts (t .service) (t .period) (t .reason) (narrated .0) (narrated .1) in
       rw (
-        text-back 0 20 (t .password) (fitted-form 28 _ (test 28)),
-        text-back 0 20 (t .sender) (fitted-form 29 _ (test 29)),
-        text-back 0 20 (t .seme) (fitted-form 1 _ (test 1)),
+        text-back 0 20 (t .password) (fitted-form tree slotOf 28 _ (test 28)),
+        text-back 0 20 (t .sender) (fitted-form tree slotOf 29 _ (test 29)),
+        text-back 0 20 (t .seme) (fitted-form tree slotOf 1 _ (test 1)),
         prep-back (t .prep) (test 3),
-        text-back 0 20 (t .mast) (fitted-form 4 _ (test 4)),
-        text-back 0 20 (t .prev) (fitted-form 5 _ (test 5)),
-        text-back 0 20 (t .list) (fitted-form 6 _ (test 6)),
+        text-back 0 20 (t .mast) (fitted-form tree slotOf 4 _ (test 4)),
+        text-back 0 20 (t .prev) (fitted-form tree slotOf 5 _ (test 5)),
+        text-back 0 20 (t .list) (fitted-form tree slotOf 6 _ (test 6)),
         moment-round (t .trad) (test 7),
         date-round (t .sett) (test 8),
         amount-round (t .price .0) (test 9),
         side-back (t .side),
         kind-back (t .kind),
-        text-back 0 20 (t .buyer .code) (fitted-form 12 _ (test 12)),
-        text-back 0 20 (t .buyer .reference) (fitted-form 13 _ (test 13)),
-        text-back 0 20 (t .buyer .trader) (fitted-form 14 _ (test 14)),
-        text-back 0 20 (t .seller .code) (fitted-form 15 _ (test 15)),
-        text-back 0 20 (t .seller .reference) (fitted-form 16 _ (test 16)),
-        text-back 0 20 (t .seller .trader) (fitted-form 17 _ (test 17)),
+        text-back 0 20 (t .buyer .code) (fitted-form tree slotOf 12 _ (test 12)),
+        text-back 0 20 (t .buyer .reference) (fitted-form tree slotOf 13 _ (test 13)),
+        text-back 0 20 (t .buyer .trader) (fitted-form tree slotOf 14 _ (test 14)),
+        text-back 0 20 (t .seller .code) (fitted-form tree slotOf 15 _ (test 15)),
+        text-back 0 20 (t .seller .reference) (fitted-form tree slotOf 16 _ (test 16)),
+        text-back 0 20 (t .seller .trader) (fitted-form tree slotOf 17 _ (test 17)),
         amount-round (t .par .0) (test 18),
-        text-back 0 20 (t .cusip) (fitted-form 19 _ (test 19)),
-        text-back 0 20 (t .pool) (fitted-form 20 _ (test 20)),
+        text-back 0 20 (t .cusip) (fitted-form tree slotOf 19 _ (test 19)),
+        text-back 0 20 (t .pool) (fitted-form tree slotOf 20 _ (test 20)),
         told .service-of,
         told .period-of,
         told .reason-of,
@@ -275,7 +279,7 @@ module _ (value : ℕ → List ℕ) (h : Held mt515 value) (rules : rulesOf mt51
   text-kept : (slot least most : ℕ) → has (everySlot mt515) slot ≡ true → slotOf slot .form ≡ codes least most → leb most 20 ≡ true
       → (fitted slot (textOf (value slot)) ≡ true) × (contents (textOf (value slot)) ≡ value slot)
   unfolding optional
-  text-kept slot least most b is l = fitted-text slot least most (value slot) is l (form-of slot b)
+  text-kept slot least most b is l = fitted-text tree slotOf slot least most (value slot) is l (form-of slot b)
 
   amount-text : (slot : ℕ) → amountNumber (amountRead (value slot)) ≡ 0
       → (amountForm (amountOr0 (amountRead (value slot))) ≡ true) × (amountText (amountOr0 (amountRead (value slot))) ≡ tidied amount (value slot))

@@ -1,7 +1,6 @@
-pub mod Fields
+pub mod Prep
 pub mod Narratives
 pub mod Laws
 pub mod Widths
-pub mod Places
 pub mod Cases
 pub mod Laid

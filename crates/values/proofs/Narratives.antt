@@ -26,7 +26,7 @@ use Rattle.trade.specs.declared.Period.{Period}
 use Rattle.kinds.specs.Kinds.{present}
 use Rattle.values.specs.Values.{serviceWord, periodText, reasonText, narrative}
 use Rattle.values.specs.Writable.{periodForm, reasonForm}
-use Rattle.values.proofs.Fields.{_⨾_, word-back, code-text, text-code}
+use Rattle.format.proofs.BySlot.{_⨾_, word-back, code-text, text-code}
 
 pub service-four : (service : Service) → length (serviceWord service) ≡ 4
 unfolding serviceWord bytes

@@ -3,13 +3,13 @@ use Prim.Native.Nat.{ℕ}
 use mathlib.Core.Bool.{Bool, true, _&&_, _||_}
 use mathlib.Core.List.{List, [], _∷_}
 use lib.Dec.{leb, eqb}
-use Rattle.text.specs.Texts.{contents, inForm as textForm}
+use Rattle.text.specs.Texts.{inForm as textForm}
 use Rattle.text.specs.declared.Text.{Text}
 use Rattle.amount.specs.Amounts.{inForm as amountForm}
 use Rattle.calendar.specs.Dates.{isDate, isMoment}
 use Rattle.calendar.specs.declared.Moment.{Moment}
-use Rattle.forms.specs.Forms.{formNumber}
-use Rattle.format.specs.Format.{mayLack}
+use Rattle.format.specs.Writable as Any
+use Rattle.format.specs.Writable.{hold}
 use Rattle.trade.specs.Records.{passwordSlot, senderSlot}
 use Rattle.trade.specs.declared.Period.{Period}
 use Rattle.trade.specs.declared.Trade.{Trade}
@@ -33,8 +33,8 @@ reasonForm reason = textForm 0 0 reason || textForm 4 4 reason
 -- 0. Code words are always words of their lists, and 23G is not held
 
 -- a text of the record is in form, and is a value of its slot, or absent
-unfoldable pub fitted : ℕ → Text → Bool
-fitted slot x = textForm 0 20 x && ((mayLack tree slot && eqb (x .len) 0) || eqb (formNumber (slotOf slot .form) (contents x)) 0)
+abbrev pub fitted : ℕ → Text → Bool
+fitted slot x = Any.fitted tree slotOf slot x
 
 unfoldable pub tests : Trade → List Bool
 tests t =
@@ -69,10 +69,6 @@ tests t =
     ∷ fitted passwordSlot (t .password)
     ∷ fitted senderSlot (t .sender)
     ∷ []
-
-unfoldable pub hold : List Bool → Bool
-hold [] = true
-hold (b ∷ bs) = b && hold bs
 
 unfoldable pub inForm : Trade → Bool
 inForm t = hold (tests t)

@@ -12,7 +12,7 @@ ghost use Prim.Native.Nat.{_≤_};
 ghost use lib.ListN.{length};
 ghost use Rattle.fill.specs.Runs.{overRun};
 ghost use Rattle.values.specs.Values.{values, valueOf};
-ghost use Rattle.values.specs.Places.{ends};
+ghost use Rattle.fill.specs.Places.{ends};
 
 // What the layout makes optional: PREP, MAST, PREV, LIST, of each party the contra reference and the trader, and POOL.
 pub const OPTIONAL: [u8; 9] = *b"\x03\x04\x05\x06\x0d\x0e\x10\x11\x14";

@@ -16,7 +16,7 @@ ghost use Rattle.text.specs.Texts.{contents};
 ghost use Rattle.text.specs.Copy.{placed, after};
 ghost use Rattle.fill.specs.Runs.{overRun, behindRun};
 ghost use Rattle.values.specs.Values.{values, sideWord, kindWord};
-ghost use Rattle.values.specs.Places.{ends};
+ghost use Rattle.fill.specs.Places.{ends};
 
 // Only the text is put, and not the zero bytes behind it.
 fn put_text(buf: &mut [u8], at: usize, text: Text) -> usize

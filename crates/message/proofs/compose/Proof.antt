@@ -5,7 +5,7 @@ use lib.ListN.{length}
 use Rattle.writer.proofs.Laws.{put-whole}
 use Rattle.values.specs.Mt515.{mt515}
 use Rattle.values.specs.Values.{values}
-use Rattle.values.specs.Places.{ends}
+use Rattle.fill.specs.Places.{ends}
 use Rattle.message.proofs.Writes.{values-lent}
 use borrow.Author.Needs.{needs}
 use Rattle.message.proofs.compose.Statement.{statement}

@@ -6,8 +6,8 @@ use lib.ListN.{length, set, length-set}
 use Rattle.fill.specs.Runs.{overRun}
 use Rattle.fill.proofs.Runs.{length-run}
 use Rattle.values.specs.Values.{values}
-use Rattle.values.specs.Places.{ends}
-use Rattle.values.proofs.Places.{none-kept, stored, more, all-places}
+use Rattle.fill.specs.Places.{ends}
+use Rattle.fill.proofs.Places.{none-kept, stored, more, all-places}
 use borrow.Author.Needs.{needs}
 use Rattle.values.proofs.put_values.Statement.{statement}
 use Rattle.values.proofs.put_values.Tie as tie

@@ -1,6 +1,7 @@
 -- `judge::form::details_form` meets its contract. Assumes nothing.
 use mathlib.Core.Bool.{and-true}
-use Rattle.values.specs.Writable.{tests, hold}
+use Rattle.format.specs.Writable.{hold}
+use Rattle.values.specs.Writable.{tests}
 use borrow.Author.Needs.{needs}
 use Rattle.judge.proofs.form.details_form.Statement.{statement}
 use Rattle.judge.proofs.form.details_form.Tie as tie

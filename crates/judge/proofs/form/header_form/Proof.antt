@@ -1,6 +1,7 @@
 -- `judge::form::header_form` meets its contract. Assumes nothing.
 use mathlib.Core.Bool.{and-true}
-use Rattle.values.specs.Writable.{tests, hold}
+use Rattle.format.specs.Writable.{hold}
+use Rattle.values.specs.Writable.{tests}
 use Rattle.judge.proofs.Tests.{widths}
 use borrow.Author.Needs.{needs}
 use Rattle.judge.proofs.form.header_form.Statement.{statement}

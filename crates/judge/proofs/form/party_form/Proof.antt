@@ -1,6 +1,6 @@
 -- `judge::form::party_form` meets its contract. Assumes nothing.
 use mathlib.Core.Bool.{and-true}
-use Rattle.values.specs.Writable.{hold}
+use Rattle.format.specs.Writable.{hold}
 use borrow.Author.Needs.{needs}
 use Rattle.judge.proofs.form.party_form.Statement.{statement}
 use Rattle.judge.proofs.form.party_form.Tie as tie

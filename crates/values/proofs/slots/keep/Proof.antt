@@ -5,7 +5,7 @@ use native.Mathlib.Nat.{add-zero}
 use native.Mathlib.Omega.{arith}
 use lib.ListN.{length, drop}
 use lib.Seq.{sets}
-use Rattle.values.proofs.Places.{keep-more, keep-done}
+use Rattle.fill.proofs.Places.{keep-more, keep-done}
 use borrow.Author.Needs.{needs}
 use Rattle.values.proofs.slots.keep.Statement.{statement}
 use Rattle.values.proofs.slots.keep.Tie as tie

@@ -2,7 +2,7 @@
 use mathlib.Core.Path.{refl}
 use mathlib.Core.List.{[], _∷_}
 use Rattle.values.specs.Values.{values}
-use Rattle.values.proofs.Places.{kept, behind, stored, more}
+use Rattle.fill.proofs.Places.{kept, behind, stored, more}
 use Rattle.values.proofs.Widths.{moment-most, date-most, amount-most}
 use borrow.Author.Needs.{needs}
 use Rattle.values.proofs.slots.put_details.Statement.{statement}

@@ -1,6 +1,6 @@
 -- `values::slots::put_header` meets its contract. Assumes nothing.
 use mathlib.Core.List.{[], _∷_}
-use Rattle.values.proofs.Places.{none-kept, kept, behind, stored}
+use Rattle.fill.proofs.Places.{none-kept, kept, behind, stored}
 use borrow.Author.Needs.{needs}
 use Rattle.values.proofs.slots.put_header.Statement.{statement}
 use Rattle.values.proofs.slots.put_header.Tie as tie

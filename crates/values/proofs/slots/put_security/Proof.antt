@@ -1,7 +1,7 @@
 -- `values::slots::put_security` meets its contract. Assumes nothing.
 use mathlib.Core.List.{[], _∷_}
 use Rattle.values.specs.Values.{values}
-use Rattle.values.proofs.Places.{kept, behind, stored}
+use Rattle.fill.proofs.Places.{kept, behind, stored}
 use Rattle.values.proofs.Widths.{amount-most}
 use borrow.Author.Needs.{needs}
 use Rattle.values.proofs.slots.put_security.Statement.{statement}

@@ -1,6 +1,6 @@
 -- `values::slots::put_three` meets its contract. Assumes nothing.
 use mathlib.Core.List.{[], _∷_}
-use Rattle.values.proofs.Places.{kept, behind, stored}
+use Rattle.fill.proofs.Places.{kept, behind, stored}
 use borrow.Author.Needs.{needs}
 use Rattle.values.proofs.slots.put_three.Statement.{statement}
 use Rattle.values.proofs.slots.put_three.Tie as tie

@@ -1,6 +1,6 @@
 -- `values::slots::put_words` meets its contract. Assumes nothing.
 use mathlib.Core.List.{[], _∷_}
-use Rattle.values.proofs.Places.{kept, behind, stored}
+use Rattle.fill.proofs.Places.{kept, behind, stored}
 use Rattle.values.proofs.Widths.{word-most, side-four, kind-four}
 use borrow.Author.Needs.{needs}
 use Rattle.values.proofs.slots.put_words.Statement.{statement}

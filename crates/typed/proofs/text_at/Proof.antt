@@ -1,9 +1,9 @@
--- `trade::text_at` meets its contract. Assumes nothing.
+-- `typed::text_at` meets its contract. Assumes nothing.
 use mathlib.Core.Path.{ap, _∙_}
 use Rattle.text.specs.Texts.{textOf}
 use borrow.Author.Needs.{needs}
-use Rattle.trade.proofs.text_at.Statement.{statement}
-use Rattle.trade.proofs.text_at.Tie as tie
+use Rattle.typed.proofs.text_at.Statement.{statement}
+use Rattle.typed.proofs.text_at.Tie as tie
 
 stretch-requires : tie.Need-stretch-requires
 stretch-requires c κs = search needs

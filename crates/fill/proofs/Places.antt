@@ -14,9 +14,9 @@ use borrow.Author.Tests.{le-leb}
 use Rattle.text.specs.Copy.{over, fits, placed, after}
 use Rattle.text.proofs.Laws.{put-none, length-placed}
 use Rattle.stretches.specs.Stretches.{between, stretchOf}
 use Rattle.fill.specs.Runs.{overRun, behindRun}
 use Rattle.fill.proofs.Runs.{then, flat-append, end-of, whole}
-use Rattle.values.specs.Places.{ends}
+use Rattle.fill.specs.Places.{ends}
 
 -- ---- values put from a place on: the place behind them, what the text holds, where each ends, and the bytes that they have at most
 

@@ -1,7 +1,7 @@
--- `trade::date_at` meets its contract. Assumes nothing.
+-- `typed::date_at` meets its contract. Assumes nothing.
 use borrow.Author.Needs.{needs}
-use Rattle.trade.proofs.date_at.Statement.{statement}
-use Rattle.trade.proofs.date_at.Tie as tie
+use Rattle.typed.proofs.date_at.Statement.{statement}
+use Rattle.typed.proofs.date_at.Tie as tie
 
 stretch-requires : tie.Need-stretch-requires
 stretch-requires c κs = search needs
