@@ -22,3 +22,4 @@ pub mod Specimen
 pub mod Cases
 pub mod Lent
 pub mod BySlot
+pub mod FieldTests
