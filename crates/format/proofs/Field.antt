@@ -125,7 +125,7 @@ module _ (F : Format) where
     unfolding spanOf spanIn
     span-found m slot h = rw (line-found m slot h)
 
-    line-stood : (m : List ℕ) (slot : ℕ) → Stood m (lineFor F m slot)
+    pub line-stood : (m : List ℕ) (slot : ℕ) → Stood m (lineFor F m slot)
     line-stood m slot = go (asked F m slot) refl
       where
         go : (b : Bool) → asked F m slot ≡ b → Stood m (lineFor F m slot)
@@ -139,7 +139,7 @@ module _ (F : Format) where
         number-is : readOf F m .number ≡ 0
         number-is = demands F L W .accepts-lawful m .1 w
 
-        lawful-line : takenFor slot (takenOn 5 (w .sheet)) ≡ lineFor F m slot
+        pub lawful-line : takenFor slot (takenOn 5 (w .sheet)) ≡ lineFor F m slot
         lawful-line = line-is m slot (asked-of m slot number-is named) (takenOn 5 (w .sheet)) (body-taken F L m (w .sheet) (w .laid) (w .lines))
 
         lawful-field : fieldOf F m slot ≡ drop (frontOf F slot) (valueIn (w .sheet) slot)
@@ -155,7 +155,7 @@ module _ (F : Format) where
         field-said = lawful-field ∙ sym (drop-drop (F .beyond slot) (length (F .slotOf slot .fixed)) (valueIn (w .sheet) slot)) ∙ ap (drop (F .beyond slot)) (sym said)
 
         -- a field that is there is never empty
-        field-some : has (slotsHeld (w .sheet)) slot ≡ true → 0 < length (fieldOf F m slot)
+        pub field-some : has (slotsHeld (w .sheet)) slot ≡ true → 0 < length (fieldOf F m slot)
         field-some h =
             let v = valueIn (w .sheet) slot in
             let f = N .are-some slot v named (valued-at F (w .sheet) slot (w .valued) h) in
@@ -163,10 +163,11 @@ module _ (F : Format) where
             let e = ap length lawful-field in
             omega arith
 
+        pub held-none : has (slotsHeld (w .sheet)) slot ≡ false → spanIn F m slot ≡ nowhere
+        held-none h = no-span m slot (sym lawful-line ∙ none-taken (w .sheet) 5 slot h)
+
         absent-none : has (come [] (w .sheet)) slot ≡ false → spanIn F m slot ≡ nowhere
-        absent-none h =
-            let n = is-false (has (slotsHeld (w .sheet)) slot) (λ e. true≢false (sym (held-come (w .sheet) [] slot e) ∙ h)) in
-            no-span m slot (sym lawful-line ∙ none-taken (w .sheet) 5 slot n)
+        absent-none h = held-none (is-false (has (slotsHeld (w .sheet)) slot) (λ e. true≢false (sym (held-come (w .sheet) [] slot e) ∙ h)))
 
         none-absent-at : spanIn F m slot ≡ nowhere → has (come [] (w .sheet)) slot ≡ false
         unfolding spanIn fieldOf spanFrom has

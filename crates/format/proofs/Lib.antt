@@ -14,6 +14,9 @@ pub mod Plainly
 pub mod Demands
 pub mod Numbers
 pub mod Field
+pub mod Places
+pub mod Putting
+pub mod Outline
 pub mod Grows
 pub mod Lengths
 pub mod Asking

@@ -10,6 +10,7 @@ pub mod Plain
 pub mod Asking
 pub mod Demands
 pub mod Field
+pub mod Outline
 pub mod Batch
 pub mod Specimen
 pub mod Cases

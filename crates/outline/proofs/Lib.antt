@@ -1,4 +1,2 @@
-pub mod Loop
-pub mod Sheets
 pub mod Keeping
 pub mod Standing

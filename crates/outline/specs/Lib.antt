@@ -1,3 +1,1 @@
 pub mod Outline
-pub mod Kept
-pub mod Standing

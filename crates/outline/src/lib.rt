@@ -1,10 +1,11 @@
 // All fields of a message in one answer: of each where its value begins and where it ends.
 //
-// What is right stands in specs/Places.
+// What is right stands in specs/Outline.
 use lines::Verdict;
 ghost use mathlib.Core.Path.{_≡_};
-ghost use Rattle.outline.specs.Outline.{outlineOf};
-ghost use Rattle.outline.specs.Kept.{slotFor, begunAt, startsIn, endsIn};
+ghost use Rattle.format.specs.Outline.{slotFor, begunAt, startsKept, endsKept};
+ghost use Rattle.values.specs.Mt515.{mt515};
+ghost use Rattle.outline.specs.Outline.{senderLine, outlineOf};
 
 // The fields are numbered below this: the slots 1 to 21, the password and the sender.
 pub const FIELDS: usize = 24;
@@ -28,7 +29,7 @@ pub struct Outline {
 
 // The slot of a field.
 fn slot_of(field: usize) -> usize
-    ensures { λ r. ⌜ r ≡ slotFor field ⌝ }
+    ensures { λ r. ⌜ r ≡ slotFor mt515 senderLine field ⌝ }
 {
     if field == PASSWORD {
         return PASSWORD_SLOT;
@@ -41,7 +42,7 @@ fn slot_of(field: usize) -> usize
 
 // Where a field begins whose slot's value stands between two places: behind `GSCC` of 70E one byte is not the field's.
 fn begin(field: usize, from: usize, to: usize) -> usize
-    ensures { λ r. ⌜ r ≡ begunAt field from to ⌝ }
+    ensures { λ r. ⌜ r ≡ begunAt mt515 field from to ⌝ }
 {
     if field != trade::NARRATIVE {
         return from;
@@ -55,7 +56,7 @@ fn hand_out<'a>(
     begun: &'a [usize; stretches::SLOTS],
     ended: &'a [usize; stretches::SLOTS],
 ) -> Outline
-    ensures { λ r. ⌜ r ≡ record { number = verdict .number; line = verdict .line; starts = startsIn (now (begun .entry)) (now (ended .entry)); ends = endsIn (now (ended .entry)) } ⌝ }
+    ensures { λ r. ⌜ r ≡ record { number = verdict .number; line = verdict .line; starts = startsKept mt515 senderLine (now (begun .entry)) (now (ended .entry)); ends = endsKept mt515 senderLine (now (ended .entry)) } ⌝ }
 {
     let mut starts = [0usize; FIELDS];
     let mut ends = [0usize; FIELDS];

@@ -44,12 +44,12 @@ line-between m k j =
 
 -- ---- the places that the header keeps
 
-starts-many : (slotOf : ℕ → Slot) (m : List ℕ) (hs : List ℕ) (k : ℕ) (starts : List ℕ) → length (startsFrom slotOf m k starts hs) ≡ length starts
+pub starts-many : (slotOf : ℕ → Slot) (m : List ℕ) (hs : List ℕ) (k : ℕ) (starts : List ℕ) → length (startsFrom slotOf m k starts hs) ≡ length starts
 unfolding startsFrom
 starts-many slotOf m [] k starts = refl
 starts-many slotOf m (h ∷ hs) k starts = starts-many slotOf m hs (suc k) _ ∙ length-set starts h _
 
-ends-many : (m : List ℕ) (hs : List ℕ) (k : ℕ) (ends : List ℕ) → length (endsFrom m k ends hs) ≡ length ends
+pub ends-many : (m : List ℕ) (hs : List ℕ) (k : ℕ) (ends : List ℕ) → length (endsFrom m k ends hs) ≡ length ends
 unfolding endsFrom
 ends-many m [] k ends = refl
 ends-many m (h ∷ hs) k ends = ends-many m hs (suc k) _ ∙ length-set ends h _

@@ -1,13 +1,15 @@
 -- `outline::begin` meets its contract. Assumes nothing.
+use mathlib.Core.Path.{sym}
 use borrow.Author.Needs.{needs}
 use borrow.Author.Tests.{eq-eqb, ne-eqb, lt-ltb, le-ltb}
-use Rattle.outline.specs.Kept.{begunAt}
+use Rattle.format.specs.Outline.{begunAt}
+use Rattle.format.proofs.Outline.{begun-whole}
+use Rattle.values.specs.Mt515.{mt515}
 use Rattle.outline.proofs.begin.Statement.{statement}
 use Rattle.outline.proofs.begin.Tie as tie
 
 returns : tie.Need-returns
-unfolding begunAt
-returns c = rw (ne-eqb _ _ (c .if1 .taken))
+returns c = sym (begun-whole mt515 _ _ _ (rw (ne-eqb _ _ (c .if1 .taken))))
 
 add-result : tie.Need-add-result
 add-result c = search needs

@@ -4,19 +4,23 @@ use native.Mathlib.Omega.{arith}
 use lib.ListN.{length-replicate}
 use borrow.Author.Needs.{needs}
 use denote.Ref.{now}
-use Rattle.outline.specs.Kept.{startKept, endKept, startsIn, endsIn}
-use Rattle.outline.proofs.Loop.{Put, slot-in, start-of, end-of, none-put, one-put, all-put}
+use Rattle.format.specs.Outline.{startKept, endKept, startsKept, endsKept}
+use Rattle.format.proofs.Outline.{start-of, end-of}
+use Rattle.format.proofs.Putting.{Put, none-put, one-put, all-put}
+use Rattle.values.specs.Mt515.{mt515}
+use Rattle.outline.specs.Outline.{senderLine}
+use Rattle.outline.proofs.Keeping.{slot-in}
 use Rattle.outline.proofs.hand_out.Statement.{statement}
 use Rattle.outline.proofs.hand_out.Tie as tie
 
 abbrev Inv-loop : tie.InvT-loop
-Inv-loop verdict begun ended starts₀ ends₀ field₀ starts ends field = Put (startKept begun ended) starts field × Put (endKept ended) ends field
+Inv-loop verdict begun ended starts₀ ends₀ field₀ starts ends field = Put (startKept mt515 senderLine begun ended) 24 starts field × Put (endKept mt515 senderLine ended) 24 ends field
 
 abbrev μ-loop : tie.MeasureT-loop
 μ-loop verdict begun ended starts₀ ends₀ field₀ starts ends field = 24 - field
 
 loop-holds : tie.Need-loop-holds Inv-loop μ-loop
-loop-holds c = (none-put _ _ (length-replicate {A = ℕ} 24 0), none-put _ _ (length-replicate {A = ℕ} 24 0))
+loop-holds c = (none-put _ _ _ (length-replicate {A = ℕ} 24 0), none-put _ _ _ (length-replicate {A = ℕ} 24 0))
 
 slot-of-requires : tie.Need-slot-of-requires Inv-loop μ-loop
 slot-of-requires c κs = search needs
@@ -60,13 +64,13 @@ loop-again c =
     let l = t .before .loop in
     let a = t .before .before .args in
     let e = c .before .before .before .slot-of .ensures in (
-      one-put _ _ _ _ (l .inv .0) (t .loop-test .taken) (start-of _ _ e (now (a .begun)) (now (a .ended)) _ (c .begin .ensures)),
-      one-put _ _ _ _ (l .inv .1) (t .loop-test .taken) (end-of _ _ e (now (a .ended))),
+      one-put _ _ _ _ _ (l .inv .0) (t .loop-test .taken) (start-of mt515 senderLine _ _ e (now (a .begun)) (now (a .ended)) _ (c .begin .ensures)),
+      one-put _ _ _ _ _ (l .inv .1) (t .loop-test .taken) (end-of mt515 senderLine _ _ e (now (a .ended))),
     )
 
 returns : tie.Need-returns Inv-loop μ-loop
-unfolding startsIn endsIn
-returns c = let l = c .before .loop in rw (all-put _ _ _ (l .inv .0) (c .loop-test .left), all-put _ _ _ (l .inv .1) (c .loop-test .left))
+unfolding startsKept endsKept
+returns c = let l = c .before .loop in rw (all-put _ _ _ _ (l .inv .0) (c .loop-test .left), all-put _ _ _ _ (l .inv .1) (c .loop-test .left))
 
 pub hand-out-spec : {M : Type 1} → statement M
 hand-out-spec =
