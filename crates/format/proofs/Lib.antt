@@ -21,3 +21,6 @@ pub mod Batch
 pub mod Specimen
 pub mod Cases
 pub mod Lent
+pub mod Chain
+pub mod Taken
+pub mod Moved
