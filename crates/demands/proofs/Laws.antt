@@ -2,7 +2,7 @@
 -- of writing are kept together.
 -- Assumes nothing.
 use Prim.Native.Nat.{ℕ, _+_}
-use mathlib.Core.Path.{_≡_, refl, ap}
+use mathlib.Core.Path.{_≡_, refl}
 use mathlib.Core.Bool.{Bool, true, false}
 use mathlib.Core.List.{List}
 use native.Mathlib.Omega.{arith}
@@ -22,7 +22,7 @@ use Rattle.kinds.proofs.Laws.{own-function, kinds-passes}
 use Rattle.values.specs.Values.{values, valueOf}
 use Rattle.values.specs.Writable.{inForm}
 use Rattle.values.specs.Mt515.{mt515}
-use Rattle.values.proofs.Laws.{record-back, values-held, values-back, same-values, told-short}
+use Rattle.values.proofs.Laws.{record-back, values-held, values-back, rests, told-short}
 use Rattle.message.proofs.Lengths.{message-most}
 
 -- ---- every rule has line 0
@@ -84,7 +84,7 @@ laws =
       record-back = record-back;
       values-held = values-held;
       values-back = values-back;
-      rests = λ f g e. let s = same-values f g e in (s .0, λ t. ap (λ (x : List ℕ). kindsPass x t) (s .1));
+      rests = rests;
       rules-back = rules-back;
       rules-on = rules-on;
       rules-line = λ value t. kinds-line (value 2) t;

@@ -1,7 +1,7 @@
 -- The answers of asking for a plain form, of any message type: that of the reading where it refuses, and else that of writing the
 -- record.
 -- Assumes nothing.
-use Prim.Native.Nat.{ℕ}
+use Prim.Native.Nat.{ℕ, _≤_}
 use mathlib.Core.Path.{_≡_, refl, _∙_}
 use mathlib.Core.Bool.{Bool, true, false, cond}
 use mathlib.Core.List.{List}
@@ -51,3 +51,7 @@ module _ (F : Format) (m buf : List ℕ) where
       let room = room-is (heldIn F m) good plain (length buf) in
       let e = room ∙ go (verdictOf F m) (verdictOf F m) (roomPass F m (length buf)) refl z in
       (e, rw (← e, plain), rw (← e, plain))
+
+-- the plain form of an accepted message is no longer than the longest
+pub plain-most : (F : Format) → Layout F → Laws F → (m : List ℕ) → Accepted F m → length (plainOf F m) ≤ F .longest
+plain-most F L W m z = rw (plainly F L W m z) at (W .most (heldIn F m) (judged F L W m z))

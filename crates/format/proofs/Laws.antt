@@ -6,9 +6,10 @@ use mathlib.Core.Path.{_≡_}
 use mathlib.Core.Bool.{true, _||_, not}
 use mathlib.Core.List.{List, [], _∷_, _++_}
 use mathlib.Core.Logic.{_⊎_}
-use lib.Dec.{eqb}
+use lib.Dec.{ltb, eqb}
 use lib.ListN.{length}
 use Rattle.text.specs.Bytes.{bytes}
+use Rattle.stretches.specs.Stretches.{slotCount}
 use Rattle.forms.specs.Forms.{valueNumber}
 use Rattle.sheets.specs.Sheets.{has}
 use Rattle.sheets.specs.Slots.{slotsOf}
@@ -35,6 +36,10 @@ strangers F = bytes "-" ∷ (edges (F .groups) ++ F .fronts)
 module _ (F : Format) where
   unfoldable pub everySlot : List ℕ
   everySlot = F .header ++ slotsOf (F .tree)
+
+  -- each has its place
+  abbrev pub Placed : Type 0
+  Placed = every (λ s. ltb s slotCount) everySlot ≡ true
 
 -- ---- the layout
 
@@ -81,6 +86,12 @@ module _ (F : Format) where
     pub whole : complete (behindIn F value) (F .tree) ≡ true
     pub firm : solid (behindIn F value) (F .tree) ≡ true
 
+  -- the record of values, and the rules of reading, are the same for values that are the same at every slot
+  abbrev pub Rests : Type 0
+  Rests =
+      (f g : ℕ → List ℕ) → ((s : ℕ) → has (everySlot F) s ≡ true → f s ≡ g s)
+      → (F .recordOf f ≡ F .recordOf g) × ((r : F .Held) → F .readRules f r ≡ F .readRules g r)
+
   pub record Laws : Type 0 where
     -- a record in form is the record of its values, and these are a message's
     pub record-back : (r : F .Held) → F .inForm r ≡ true → F .recordOf (F .valueOf r) ≡ r
@@ -90,8 +101,7 @@ module _ (F : Format) where
         → (F .inForm (F .recordOf value) ≡ true)
         × ((s : ℕ) → has (everySlot F) s ≡ true → F .valueOf (F .recordOf value) s ≡ tidied (F .slotOf s .form) (value s))
     -- it rests on the values of the slots alone
-    pub rests : (f g : ℕ → List ℕ) → ((s : ℕ) → has (everySlot F) s ≡ true → f s ≡ g s)
-        → (F .recordOf f ≡ F .recordOf g) × ((r : F .Held) → F .readRules f r ≡ F .readRules g r)
+    pub rests : Rests
     -- the rules of reading and of writing are kept together
     pub rules-back : (r : F .Held) → F .inForm r ≡ true → F .writeRules r .number ≡ 0 → F .readRules (F .valueOf r) r .number ≡ 0
     pub rules-on : (value : ℕ → List ℕ) → Held value → rulesOf F value .number ≡ 0 → F .writeRules (F .recordOf value) .number ≡ 0

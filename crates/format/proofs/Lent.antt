@@ -1,15 +1,14 @@
 -- The values of an accepted message, lent for writing as the stretches that its reading kept. The record's values are these, with the
 -- amounts tidied; and an amount's stretch, moved in to its shortest text, is its tidied value.
 -- Assumes nothing.
-use Prim.Native.Nat.{ℕ, zero, suc, _+_, _-_, _≤_, _<_}
+use Prim.Native.Nat.{ℕ, _+_, _-_, _≤_, _<_}
 use mathlib.Core.Path.{_≡_, refl, sym, ap, _∙_}
 use mathlib.Core.Bool.{Bool, true, false, _&&_, _||_, not, cond, true≢false}
 use mathlib.Core.List.{List, [], _∷_}
 use mathlib.Core.Logic.{inl, inr}
-use native.Mathlib.Nat.{not-suc-le-zero, le-of-suc-le-suc}
 use native.Mathlib.Omega.{arith}
 use lib.Dec.{leb, ltb, eqb}
-use lib.ListN.{length, take, drop, getD, set, length-take, length-drop}
+use lib.ListN.{length, take, drop, getD, set, length-take, length-drop, List·getD-eq-default}
 use lib.Seq.{take-take, drop-drop, drop-nil}
 use borrow.Author.Tests.{le-leb, leb-true, ltb-true, ltb-false, eqb-true, not-true}
 use Rattle.text.proofs.Laws.{and-left, and-right}
@@ -36,7 +35,7 @@ use Rattle.format.specs.Reading.{Read, reading, bodyOf, valueOn, rulesOf
 use Rattle.format.specs.Lawful.{saidIn, Lawful}
 use Rattle.format.specs.Demands.{Accepted, heldIn}
 use Rattle.format.proofs.Tests.{every, every-at, number-form, isAmountForm, tidied, tidied-same, tidied-none, amount-some}
-use Rattle.format.proofs.Laws.{everySlot, Layout, Laws, Filled}
+use Rattle.format.proofs.Laws.{everySlot, Layout, Placed, Laws, Filled}
 use Rattle.format.proofs.Said.{said-is}
 use Rattle.format.proofs.Rows.{rows-body, rows-verdict}
 use Rattle.format.proofs.Accepting.{body-taken}
@@ -87,14 +86,9 @@ module _ (m starts ends : List ℕ) (k : ℕ) where
       (part-between m (getD starts k 0) (getD ends k 0) (shortestOf v .from) (shortestOf v .to) (lies-within v .0) (lies-within v .1))
 
 -- a number behind the places has no stretch
-no-place : (l : List ℕ) (s : ℕ) → length l ≤ s → getD l s 0 ≡ 0
-no-place [] s h = refl
-no-place (x ∷ l) zero h = absurd (not-suc-le-zero h)
-no-place (x ∷ l) (suc s) h = no-place l s (le-of-suc-le-suc h)
-
 pub behind-none : (m starts ends : List ℕ) (s : ℕ) → length starts ≤ s → length ends ≤ s → stretchOf m starts ends s ≡ []
 unfolding stretchOf
-behind-none m starts ends s h k = rw (no-place starts s h, no-place ends s k) (no-stretch m)
+behind-none m starts ends s h k = rw (List·getD-eq-default starts 0 h, List·getD-eq-default ends 0 k) (no-stretch m)
 
 -- ---- the amounts of a message type
 
@@ -120,7 +114,7 @@ short-form other v h e = absurd (true≢false (sym h))
 -- what is asked of a message type: every slot has its place, these slots and no others have amounts, and a record has nothing for a
 -- number that names no slot
 pub record Amounts (F : Format) (ks : List ℕ) : Type 0 where
-  pub placed : every (λ s. ltb s slotCount) (everySlot F) ≡ true
+  pub placed : Placed F
   pub slots : every (λ k. has (everySlot F) k) ks ≡ true
   pub forms : every (λ s. cond (has ks s) (isAmountForm (F .slotOf s .form)) (not (isAmountForm (F .slotOf s .form)))) (everySlot F) ≡ true
   pub none : (r : F .Held) (s : ℕ) → has (everySlot F) s ≡ false → F .valueOf r s ≡ []

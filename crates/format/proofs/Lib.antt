@@ -26,3 +26,6 @@ pub mod Cases
 pub mod Lent
 pub mod BySlot
 pub mod FieldTests
+pub mod Chain
+pub mod Taken
+pub mod Moved

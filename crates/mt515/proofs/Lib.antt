@@ -1,3 +1,2 @@
 pub mod Chain
-pub mod Glancing
 pub mod Cases

@@ -33,14 +33,14 @@ use Rattle.format.specs.Reading.{rulesOf}
 use Rattle.format.specs.Writing.{behindIn}
 use Rattle.format.proofs.BySlot.{Each, _⨾_, each-at, hold-at, hold-all, no-contents, fitted-form, fitted-text, word-back}
 use Rattle.format.proofs.Tests.{every, every-at, number-form, tidied, amount-some}
-use Rattle.format.proofs.Laws.{everySlot, Filled, Held}
+use Rattle.format.proofs.Laws.{everySlot, Filled, Held, Rests}
 use Rattle.typed.specs.Typed.{amountOr0, momentOr0}
 use Rattle.typed.proofs.Laws.{amount-held, date-held, moment-held}
 use Rattle.trade.specs.Records.{kinds, sides, kindIn, sideIn, partyOf, tradeOf}
 use Rattle.trade.specs.declared.Kind.{Kind}
 use Rattle.trade.specs.declared.Side.{Side}
 use Rattle.trade.specs.declared.Trade.{Trade}
-use Rattle.kinds.specs.Kinds.{functionOf}
+use Rattle.kinds.specs.Kinds.{functionOf, kindsPass}
 use Rattle.kinds.proofs.Laws.{kinds-passes}
 use Rattle.table.specs.Table.{slots, header, slotOf}
 use Rattle.table.specs.Tree.{general, pool, details, tree}
@@ -384,3 +384,6 @@ same-values f g e = (
   ),
   e 2 refl,
 )
+
+pub rests : Rests mt515
+rests f g e = let s = same-values f g e in (s .0, λ t. ap (λ (x : List ℕ). kindsPass x t) (s .1))

@@ -1,7 +1,10 @@
 -- `mt515::read_front` meets its contract: what a glance takes is judged, and all else is cut and goes by the passes. Assumes nothing.
 use mathlib.Core.Path.{sym}
 use lib.Seq.{length-take-le}
-use Rattle.mt515.proofs.Glancing.{glanced-within, glanced-front, front-within, front-passes}
+use Rattle.format.proofs.Taken.{glanced-within, glanced-front, front-within, front-passes}
+use Rattle.values.specs.Mt515.{mt515}
+use Rattle.mt515.specs.Reading.{judged, readOf}
+use Rattle.mt515.proofs.Chain.{readable, fronted}
 use borrow.Author.Needs.{needs}
 use Rattle.mt515.proofs.read_front.Statement.{statement}
 use Rattle.mt515.proofs.read_front.Tie as tie
@@ -15,15 +18,16 @@ enum-known-width c = search needs
 slice-aggregate-judge : tie.Need-slice-aggregate-judge
 slice-aggregate-judge c =
     let w = c .before .before in
-    sym (length-take-le _ _ (glanced-within _ _ _ _ _ (w .width .given .1) (w .before .before .glance .ensures)))
+    sym (length-take-le _ _ (glanced-within mt515 readable _ _ _ _ _ (w .width .given .1) (w .before .before .glance .ensures)))
 
 judge-requires : tie.Need-judge-requires
 judge-requires c κs = search needs
 
 returns : tie.Need-returns
+unfolding judged
 returns c =
     let w = c .before .before .before .before .before in
-    glanced-front _ _ _ _ _ (w .width .given .1) (w .before .before .glance .ensures) _ (c .judge .ensures)
+    fronted _ (glanced-front mt515 readable _ _ _ _ _ (w .width .given .1) (w .before .before .glance .ensures)) (c .judge .ensures)
 
 enum-told : tie.Need-enum-told
 enum-told c = search needs
@@ -41,9 +45,10 @@ read-taken-requires : tie.Need-read-taken-requires
 read-taken-requires c κs = search needs
 
 returns-2 : tie.Need-returns-2
+unfolding readOf
 returns-2 c =
     let e = c .before .before .before .before .before .before .before in
-    front-passes _ _ (e .piece-end .ensures) _ (c .read-taken .ensures)
+    fronted _ (front-passes _ _ (e .piece-end .ensures) mt515) (c .read-taken .ensures)
 
 pub read-front-spec : {M : Type 1} → statement M
 read-front-spec =

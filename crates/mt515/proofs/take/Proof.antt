@@ -1,6 +1,8 @@
 -- `mt515::take` meets its contract: what a glance takes whole is what the passes take, and all else goes by the passes. Assumes nothing.
 use Rattle.lines.specs.Verdicts.{pass, refused}
-use Rattle.mt515.proofs.Glancing.{glanced-body}
+use Rattle.format.proofs.Taken.{glanced-body}
+use Rattle.values.specs.Mt515.{mt515}
+use Rattle.mt515.proofs.Chain.{readable}
 use borrow.Author.Needs.{needs}
 use Rattle.mt515.proofs.take.Statement.{statement}
 use Rattle.mt515.proofs.take.Tie as tie
@@ -17,7 +19,7 @@ returns c =
     let w = c .before .before in
     let g = w .before .before in
     let none = g .before .before .before .before .pre in
-    glanced-body _ _ _ _ _ (w .width .given .1) (rw (none .0, none .1) at (g .glance .ensures)) (c .if1 .taken)
+    glanced-body mt515 readable _ _ _ _ _ (w .width .given .1) (rw (none .0, none .1) at (g .glance .ensures)) (c .if1 .taken)
 
 enum-told : tie.Need-enum-told
 enum-told c = search needs

@@ -1,7 +1,7 @@
 -- `plain::compose` meets its contract: what is lent is the message itself, with the places of its values. Assumes nothing.
 use mathlib.Core.Path.{_≡_}
 use lib.ListN.{length}
-use Rattle.plain.proofs.Places.{put-plain}
+use Rattle.plain.proofs.Answers.{put-plain}
 use borrow.Author.Needs.{needs}
 use Rattle.plain.proofs.compose.Statement.{statement}
 use Rattle.plain.proofs.compose.Tie as tie

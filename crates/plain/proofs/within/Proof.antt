@@ -7,7 +7,7 @@ use denote.Ref.{now}
 use Rattle.stretches.specs.Stretches.{between}
 use Rattle.amount.specs.Amounts.{shortestOf}
 use Rattle.amount.specs.declared.Trim.{Trim}
-use Rattle.plain.proofs.Places.{moved-fits}
+use Rattle.format.proofs.Moved.{moved-fits}
 use borrow.Author.Needs.{needs}
 use Rattle.plain.proofs.within.Statement.{statement}
 use Rattle.plain.proofs.within.Tie as tie
