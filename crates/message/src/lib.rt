@@ -1,6 +1,6 @@
 // The message of a record, written into a buffer that the caller lends.
 //
-// What is right stands in specs/Messages and specs/Writing.
+// What is right stands in specs/Messages and specs/Writing, and for the parts of a message in writer's specs/Parts.
 use trade::Trade;
 ghost use mathlib.Core.Path.{_≡_};
 ghost use Prim.Native.Nat.{_≤_};
