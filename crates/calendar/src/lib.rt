@@ -2,6 +2,7 @@
 //
 // What is right stands in specs/Dates.
 use digits::Number;
+use text::Class;
 ghost use mathlib.Core.Path.{_≡_};
 ghost use Prim.Native.Nat.{_+_, _<_, _≤_};
 ghost use mathlib.Core.Bool.{true};
@@ -168,7 +169,7 @@ impl Date {
         if part.len() != 8 {
             return DateRead::Wrong;
         }
-        if digits::all_digits(part) {
+        if text::all_in(Class::Digit, part) {
             date_in(part)
         } else {
             DateRead::Wrong
@@ -230,10 +231,10 @@ impl Moment {
         if part.len() != 14 {
             return MomentRead::Wrong;
         }
-        if !digits::all_digits(&part[..8]) {
+        if !text::all_in(Class::Digit, &part[..8]) {
             return MomentRead::Wrong;
         }
-        if !digits::all_digits(&part[6..]) {
+        if !text::all_in(Class::Digit, &part[6..]) {
             return MomentRead::Wrong;
         }
         let DateRead::Good(date) = date_in(part) else {

@@ -1,9 +1,9 @@
--- The mathematics of the crate's functions, over plain lists and numbers: powers of ten, what each turn of looking at
--- digits or reading them says of the whole part, and what each turn of putting them leaves in the buffer.
+-- The mathematics of the crate's functions, over plain lists and numbers: powers of ten, what each turn of reading
+-- digits says of the whole part, and what each turn of putting them leaves in the buffer.
 -- Assumes nothing.
 use Prim.Native.Nat.{ℕ, zero, suc, _+_, _-_, _*_, _/_, _%_, _^_, _≤_, _<_}
 use mathlib.Core.Path.{_≡_, refl, sym, ap, _∙_}
-use mathlib.Core.Bool.{Bool, true, false, _&&_, cond, and-assoc, and-true}
+use mathlib.Core.Bool.{Bool, true, false, _&&_, cond}
 use mathlib.Core.List.{List, [], _∷_}
 use native.Mathlib.Nat.{not-suc-le-zero, zero-add, pow-suc, pow-le-pow-right, lt-of-lt-of-le}
 use native.Mathlib.Numerals.{add-one}
@@ -37,17 +37,6 @@ ten-small n i e h = rw e (pow-le-pow-right (lit< tt) h)
 pub ten-in : (d n i : ℕ) → d ≤ 14 → i ≡ d → n ≡ 10 ^ i → n ≡ tenTo d
 unfolding tenTo
 ten-in d n i h w e = rw (lt-ltb d 15 (omega arith), e, w)
-
--- ---- looking at every byte
-
-module _ (s : List ℕ) (g : Bool) (i : ℕ) (inv : (g && allIn Digit (drop i s)) ≡ allIn Digit s) where
-  pub looked : i < length s → (g && inClass Digit (getD s i 0) && allIn Digit (drop (i + 1) s)) ≡ allIn Digit s
-  unfolding allIn
-  looked h = and-assoc g (inClass Digit (getD s i 0)) (allIn Digit (drop (i + 1) s)) ∙ sym (sym inv ∙ rw (add-one, drop-cons s i 0 h))
-
-  pub looked-all : length s ≤ i → g ≡ allIn Digit s
-  unfolding allIn
-  looked-all h = sym (sym inv ∙ rw (drop-of-length-le s h, and-true g))
 
 -- ---- reading digits
 

@@ -7,7 +7,7 @@ ghost use Prim.Native.Nat.{_-_};
 ghost use mathlib.Core.Bool.{true};
 ghost use Rattle.text.specs.Classes.{isDigit};
 ghost use Rattle.text.specs.Copy.{placed, after};
-ghost use Rattle.digits.specs.Numerals.{digits, digitsAlone, runOf, numberOf, tenTo};
+ghost use Rattle.digits.specs.Numerals.{digits, runOf, numberOf, tenTo};
 
 // A part of a message as a number.
 pub enum Number {
@@ -42,19 +42,6 @@ fn value(digit: u8) -> u64
     ensures { λ r. ⌜ r ≡ digit - 48 ⌝ }
 {
     digit as u64 - 48
-}
-
-// Every byte is a digit. Each is looked at, also behind one that is none, so that the machine can look at many at once.
-pub fn all_digits(part: &[u8]) -> bool
-    ensures { λ r. ⌜ r ≡ digitsAlone (now (part .entry)) ⌝ }
-{
-    let mut good = true;
-    let mut i = 0;
-    while i < part.len() {
-        good = good & text::in_class(Class::Digit, part[i]);
-        i += 1;
-    }
-    good
 }
 
 // The digits that a part of at most eighteen bytes begins with; of a longer part none.

@@ -3,7 +3,7 @@
 -- Assumes nothing.
 use Prim.Native.Nat.{ℕ, suc, _+_, _-_, _≤_, _<_}
 use mathlib.Core.Path.{_≡_, refl, sym, ap, _∙_}
-use mathlib.Core.Bool.{Bool, true, false, _&&_, and-false}
+use mathlib.Core.Bool.{Bool, true, false, _&&_, and-false, and-true, and-assoc}
 use mathlib.Core.List.{List, [], _∷_, _++_, append-assoc}
 use native.Mathlib.Numerals.{add-one}
 use native.Mathlib.Nat.{add-zero, zero-add, not-suc-le-zero, le-of-suc-le-suc}
@@ -20,22 +20,16 @@ use Rattle.text.specs.Texts.{blank, contents, textOf}
 use Rattle.text.specs.declared.Class.{Class}
 use Rattle.text.specs.declared.Text.{Text}
 
--- ---- every byte of a class, from a place on
+-- ---- every byte of a class: what was seen up to a place, and what is left
 
-module _ (k : Class) (s : List ℕ) (i : ℕ) (inv : allIn k (drop i s) ≡ allIn k s) where
-  all-step : i < length s → allIn k s ≡ (inClass k (getD s i 0) && allIn k (drop (i + 1) s))
+module _ (k : Class) (s : List ℕ) (g : Bool) (i : ℕ) (inv : (g && allIn k (drop i s)) ≡ allIn k s) where
+  pub all-more : i < length s → (g && inClass k (getD s i 0) && allIn k (drop (i + 1) s)) ≡ allIn k s
   unfolding allIn
-  all-step h = sym inv ∙ rw (add-one, drop-cons s i 0)
+  all-more h = and-assoc g (inClass k (getD s i 0)) (allIn k (drop (i + 1) s)) ∙ sym (sym inv ∙ rw (add-one, drop-cons s i 0 h))
 
-  pub all-stop : i < length s → inClass k (getD s i 0) ≡ false → false ≡ allIn k s
-  all-stop h e = sym (all-step h ∙ rw e)
-
-  pub all-more : i < length s → inClass k (getD s i 0) ≡ true → allIn k (drop (i + 1) s) ≡ allIn k s
-  all-more h e = sym (all-step h ∙ rw e)
-
-  pub all-done : length s ≤ i → true ≡ allIn k s
+  pub all-done : length s ≤ i → g ≡ allIn k s
   unfolding allIn
-  all-done h = sym (sym inv ∙ ap (allIn k) (drop-of-length-le s h))
+  all-done h = sym (sym inv ∙ rw (drop-of-length-le s h, and-true g))
 
 -- ---- a part against a key, from a place on
 

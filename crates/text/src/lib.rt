@@ -60,18 +60,17 @@ pub fn remainder(byte: u8, n: u8) -> u8
     byte % n
 }
 
-// Every byte of a part is of a class.
+// Every byte of a part is of a class. Each is looked at, also behind one that is not, so that the machine can look at many at once.
 pub fn all_in(class: Class, part: &[u8]) -> bool
     ensures { λ r. ⌜ r ≡ allIn class (now (part .entry)) ⌝ }
 {
+    let mut good = true;
     let mut i = 0;
     while i < part.len() {
-        if !in_class(class, part[i]) {
-            return false;
-        }
+        good = good & in_class(class, part[i]);
         i += 1;
     }
-    true
+    good
 }
 
 // From a least to a most number of c.

@@ -21,37 +21,37 @@ all : (c : tie.Else3) → allIn Digit (now (c .before .before .before .before .b
 all c =
     let e = c .before .before .before in
     let s = now (c .before .before .before .before .before .before .before .before .args .part) in
-    overlap s (sym (e .before .all-digits .ensures) ∙ not-false _ (e .if2 .left))
-    (sym (ap (allIn Digit) (rest-of 6 _ s refl)) ∙ sym (c .before .all-digits2 .ensures) ∙ not-false _ (c .if3 .left))
+    overlap s (sym (e .before .all-in .ensures) ∙ not-false _ (e .if2 .left))
+    (sym (ap (allIn Digit) (rest-of 6 _ s refl)) ∙ sym (c .before .all-in2 .ensures) ∙ not-false _ (c .if3 .left))
 
 returns : tie.Need-returns
 returns c = not-fourteen _ (c .if1 .taken)
 
-slice-aggregate-all-digits : tie.Need-slice-aggregate-all-digits
-slice-aggregate-all-digits c = rw length-take (omega arith)
+slice-aggregate-all-in : tie.Need-slice-aggregate-all-in
+slice-aggregate-all-in c = rw length-take (omega arith)
 
-all-digits-requires : tie.Need-all-digits-requires
-all-digits-requires c κs = search needs
+all-in-requires : tie.Need-all-in-requires
+all-in-requires c κs = search needs
 
 returns-2 : tie.Need-returns-2
-returns-2 c = front-wrong _ (sym (c .before .all-digits .ensures) ∙ not-true _ (c .if2 .taken))
+returns-2 c = front-wrong _ (sym (c .before .all-in .ensures) ∙ not-true _ (c .if2 .taken))
 
-sub-all-digits : tie.Need-sub-all-digits
-sub-all-digits c = search needs
+sub-all-in : tie.Need-sub-all-in
+sub-all-in c = search needs
 
-part-all-digits-start : tie.Need-part-all-digits-start
-part-all-digits-start c = search needs
+part-all-in-start : tie.Need-part-all-in-start
+part-all-in-start c = search needs
 
-part-all-digits-end : tie.Need-part-all-digits-end
-part-all-digits-end c = search needs
+part-all-in-end : tie.Need-part-all-in-end
+part-all-in-end c = search needs
 
-all-digits-requires-2 : tie.Need-all-digits-requires-2
-all-digits-requires-2 c κs = search needs
+all-in-requires-2 : tie.Need-all-in-requires-2
+all-in-requires-2 c κs = search needs
 
 returns-3 : tie.Need-returns-3
 returns-3 c =
     let s = now (c .before .before .before .before .before .before .before .before .args .part) in
-    back-wrong s (sym (ap (allIn Digit) (rest-of 6 _ s refl)) ∙ sym (c .before .all-digits2 .ensures) ∙ not-true _ (c .if3 .taken))
+    back-wrong s (sym (ap (allIn Digit) (rest-of 6 _ s refl)) ∙ sym (c .before .all-in2 .ensures) ∙ not-true _ (c .if3 .taken))
 
 date-in-requires : tie.Need-date-in-requires
 date-in-requires c κs = let n = size c in (omega arith, all c)
@@ -98,13 +98,13 @@ read-spec =
     tie.close
     (tie.spec
     returns
-    slice-aggregate-all-digits
-    all-digits-requires
+    slice-aggregate-all-in
+    all-in-requires
     returns-2
-    sub-all-digits
-    part-all-digits-start
-    part-all-digits-end
-    all-digits-requires-2
+    sub-all-in
+    part-all-in-start
+    part-all-in-end
+    all-in-requires-2
     returns-3
     date-in-requires
     enum-known-date
