@@ -6,13 +6,13 @@ use mathlib.Core.Bool.{Bool, true, false, cond}
 use mathlib.Core.List.{List, [], _∷_, _++_}
 use native.Mathlib.Nat.{le-of-suc-le-suc}
 use native.Mathlib.Omega.{arith}
-use lib.Dec.{leb, ltb}
+use lib.Dec.{ltb}
 use lib.ListN.{length, drop, getD, length-take}
-use borrow.Author.Tests.{leb-true, ltb-true, lt-ltb}
+use borrow.Author.Tests.{ltb-true, lt-ltb}
 use Rattle.text.specs.Bytes.{begins, same}
-use Rattle.text.specs.Classes.{allIn, isCode}
-use Rattle.text.specs.declared.Class.the-variants.{C, Digit}
-use Rattle.text.proofs.Laws.{and-left, and-right, same-eq, begins-is}
+use Rattle.text.specs.Classes.{allIn}
+use Rattle.text.specs.declared.Class.the-variants.{Digit}
+use Rattle.text.proofs.Laws.{same-eq, begins-is}
 use Rattle.amount.specs.Amounts.{isAmount, meaning, amountRead, amountNumber}
 use Rattle.amount.specs.declared.AmountRead.{AmountRead}
 use Rattle.calendar.specs.Dates.{dateRead, dateNumber, momentRead, momentNumber}
@@ -51,14 +51,6 @@ value-begins slot v h = go (begins (slot .fixed) v) h
 pub value-behind : (slot : Slot) (v : List ℕ) → valueNumber slot v ≡ 0
     → (v ≡ slot .fixed ++ drop (length (slot .fixed)) v) × (formNumber (slot .form) (drop (length (slot .fixed)) v) ≡ 0)
 value-behind slot v h = let b = value-begins slot v h in (begins-is (slot .fixed) v b, after-fixed slot v b ∙ h)
-
-pub code-most : (least most : ℕ) (v : List ℕ) → isCode least most v ≡ true → length v ≤ most
-unfolding isCode
-code-most least most v e = leb-true (length v) most (and-left _ _ (and-right (leb least (length v)) _ e))
-
-pub code-all : (least most : ℕ) (v : List ℕ) → isCode least most v ≡ true → allIn C v ≡ true
-unfolding isCode
-code-all least most v e = and-right (leb (length v) most) _ (and-right (leb least (length v)) _ e)
 
 -- a word stands at its place
 pub word-at : (ws : List (List ℕ)) (v : List ℕ) → isWord ws v ≡ true → getD ws (wordAt ws v) [] ≡ v

@@ -5,26 +5,21 @@ use mathlib.Core.Path.{_≡_, refl, sym, ap, _∙_}
 use mathlib.Core.Bool.{Bool, true, false, cond}
 use mathlib.Core.List.{List, [], _∷_, _++_}
 use native.Mathlib.Omega.{arith}
-use lib.Dec.{ltb, eqb}
+use lib.Dec.{ltb}
 use lib.ListN.{length, take, drop, getD, take-append-drop, List·getD-eq-default}
 use lib.Seq.{drop-drop, drop-cons}
-use borrow.Author.Tests.{leb-true, ltb-true, ltb-false, eqb-true}
+use borrow.Author.Tests.{leb-true, ltb-true, ltb-false}
 use Rattle.text.specs.Bytes.{bytes, begins}
-use Rattle.text.specs.Classes.{isDigit, isBetween, isCode}
+use Rattle.text.specs.Classes.{isDigit, isBetween}
 use Rattle.text.proofs.Laws.{and-left, and-right, begins-is}
+use Rattle.reason.specs.Reason.{goodReason}
+use Rattle.reason.proofs.Laws.{reasonPart, reason-is}
 use Rattle.forms.specs.Words.{isWord}
-use Rattle.forms.specs.Narrative.{services, serviceIn, hasPeriod, periodIn, behindPeriod, hasReason, reasonIn, goodPeriod, goodReason, isNarrative}
+use Rattle.forms.specs.Narrative.{services, serviceIn, hasPeriod, periodIn, behindPeriod, goodPeriod, isNarrative}
 
-pub nothing : (s : List ℕ) → length s ≡ 0 → s ≡ []
-nothing [] e = refl
-nothing (b ∷ s) e = let z : ⊥ = omega arith in absurd z
-
--- a period and a reason as they stand, and nothing where there is none
+-- a period as it stands, and nothing where there is none
 abbrev pub periodPart : List ℕ → List ℕ
 periodPart v = cond (hasPeriod v) (bytes "/GUPP" ++ periodIn v ∷ []) []
-
-abbrev pub reasonPart : List ℕ → List ℕ
-reasonPart v = cond (hasReason v) (bytes "/DKRS" ++ reasonIn v) []
 
 module _ (v : List ℕ) (is : isNarrative v ≡ true) where
   pub worded : isWord services (serviceIn v) ≡ true
@@ -35,7 +30,7 @@ module _ (v : List ℕ) (is : isNarrative v ≡ true) where
   unfolding isNarrative
   good-period = and-left _ _ (and-right (isWord services (serviceIn v)) _ (and-right (begins (bytes "/TDSV") v) _ is))
 
-  good-reason : goodReason v ≡ true
+  pub good-reason : goodReason (behindPeriod v) ≡ true
   unfolding isNarrative
   good-reason = and-right (goodPeriod v) _ (and-right (isWord services (serviceIn v)) _ (and-right (begins (bytes "/TDSV") v) _ is))
 
@@ -49,10 +44,6 @@ module _ (v : List ℕ) (is : isNarrative v ≡ true) where
   pub period-digit : hasPeriod v ≡ true → isDigit (periodIn v) ≡ true
   unfolding goodPeriod
   period-digit h = rw h at good-period
-
-  pub reason-code : hasReason v ≡ true → isCode 4 4 (reasonIn v) ≡ true
-  unfolding goodReason
-  reason-code h = rw h at good-reason
 
   -- the byte of a period is there, since the byte 0 is no digit
   within : 48 ≤ getD (drop 9 v) 5 0 → 5 < length (drop 9 v)
@@ -78,15 +69,6 @@ module _ (v : List ℕ) (is : isNarrative v ≡ true) where
       go true h = some-period h
       go false h = refl
 
-  pub reason-is : behindPeriod v ≡ reasonPart v
-  unfolding goodReason hasReason reasonIn bytes
-  reason-is = go (hasReason v) refl good-reason
-    where
-      go : (b : Bool) → hasReason v ≡ b → cond b (isCode 4 4 (cond b (drop 5 (behindPeriod v)) [])) (eqb (length (behindPeriod v)) 0) ≡ true
-          → behindPeriod v ≡ cond b (bytes "/DKRS" ++ cond b (drop 5 (behindPeriod v)) []) []
-      go true h c = begins-is (bytes "/DKRS") (behindPeriod v) h
-      go false h c = nothing (behindPeriod v) (eqb-true _ _ c)
-
-  pub narrative-is : v ≡ bytes "/TDSV" ++ (serviceIn v ++ (periodPart v ++ reasonPart v))
+  pub narrative-is : v ≡ bytes "/TDSV" ++ (serviceIn v ++ (periodPart v ++ reasonPart (behindPeriod v)))
   narrative-is =
-      front ∙ ap (λ (l : List ℕ). bytes "/TDSV" ++ (serviceIn v ++ l)) (period-is ∙ ap (λ (l : List ℕ). periodPart v ++ l) reason-is)
+      front ∙ ap (λ (l : List ℕ). bytes "/TDSV" ++ (serviceIn v ++ l)) (period-is ∙ ap (λ (l : List ℕ). periodPart v ++ l) (reason-is (behindPeriod v) good-reason))

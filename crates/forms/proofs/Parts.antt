@@ -1,5 +1,5 @@
--- The mathematics of the crate's functions, over plain lists and numbers: each turn of the search for a word, the parts of a
--- narrative, and the lines of a slot's bytes.
+-- The mathematics of the crate's functions, over plain lists and numbers: each turn of the search for a word, the parts of the
+-- narratives, and the lines of a slot's bytes.
 -- Assumes nothing.
 use Prim.Native.Nat.{ℕ, zero, suc, _+_, _-_, _*_, _/_, _%_, _≤_, _<_}
 use mathlib.Core.Path.{_≡_, refl, sym, ap, _∙_}
@@ -14,7 +14,7 @@ use lib.Seq.{getD-drop, take-all}
 use borrow.Author.Tests.{le-leb, lt-leb, le-ltb, lt-ltb}
 use Rattle.text.specs.Bytes.{begins, same}
 use Rattle.text.proofs.Laws.{parts-from, length-parts, rest-of}
-use Rattle.forms.specs.Forms.{Form, Slot, nothing, codes, words, amount, date, moment, narrative, other, wordAt, isWord, unless, formNumber, valueNumber}
+use Rattle.forms.specs.Forms.{Form, Slot, nothing, codes, words, amount, date, moment, narrative, poolNarrative, other, wordAt, isWord, unless, formNumber, valueNumber}
 use Rattle.forms.specs.Narrative.{services, serviceIn, periodIn}
 use Rattle.forms.specs.Slots.{wordsOf, reaches, lineIn, textIn, wordsIn, formOf, formIn, slotAt}
 
@@ -62,7 +62,7 @@ unfolding wordsIn
 word-lines t first zero = refl
 word-lines t first (suc count) = ap suc (word-lines t (suc first) count)
 
--- ---- the parts of a narrative
+-- ---- the parts of the narratives
 
 pub none-left : (k : ℕ) (s : List ℕ) → length s < k → [] ≡ drop k s
 none-left k s h = sym (drop-of-length-le s (le-of-lt h))
@@ -103,16 +103,16 @@ words-number t v first count k n h e = rw (h, e, word-lines)
 past-two : (k : ℕ) → (k ≡ 0 → ⊥) → (k ≡ 1 → ⊥) → (k ≡ 2 → ⊥) → 3 ≤ k
 past-two k a b c = omega arith
 
-from-three : (k : ℕ) → 3 ≤ k → (k ≡ 3 → ⊥) → (k ≡ 4 → ⊥) → (k ≡ 5 → ⊥) → (k ≡ 6 → ⊥) → 7 ≤ k
-from-three k h d e f g = omega arith
+from-three : (k : ℕ) → 3 ≤ k → (k ≡ 3 → ⊥) → (k ≡ 4 → ⊥) → (k ≡ 5 → ⊥) → (k ≡ 6 → ⊥) → (k ≡ 7 → ⊥) → 8 ≤ k
+from-three k h d e f g i = omega arith
 
-pub past-six : (k : ℕ) → (k ≡ 0 → ⊥) → (k ≡ 1 → ⊥) → (k ≡ 2 → ⊥) → (k ≡ 3 → ⊥) → (k ≡ 4 → ⊥) → (k ≡ 5 → ⊥) → (k ≡ 6 → ⊥) → 7 ≤ k
-past-six k a b c = from-three k (past-two k a b c)
+pub past-seven : (k : ℕ) → (k ≡ 0 → ⊥) → (k ≡ 1 → ⊥) → (k ≡ 2 → ⊥) → (k ≡ 3 → ⊥) → (k ≡ 4 → ⊥) → (k ≡ 5 → ⊥) → (k ≡ 6 → ⊥) → (k ≡ 7 → ⊥) → 8 ≤ k
+past-seven k a b c = from-three k (past-two k a b c)
 
-pub no-form : (t : List ℕ) (kind least most : ℕ) (v : List ℕ) → 7 ≤ kind → 0 ≡ formNumber (formOf t kind least most) v
+pub no-form : (t : List ℕ) (kind least most : ℕ) (v : List ℕ) → 8 ≤ kind → 0 ≡ formNumber (formOf t kind least most) v
 unfolding formNumber formOf
 no-form t kind least most v h =
-    rw (List·getD-eq-default (nothing ∷ codes least most ∷ words (wordsIn t least most) ∷ amount ∷ date ∷ moment ∷ narrative ∷ []) other h)
+    rw (List·getD-eq-default (nothing ∷ codes least most ∷ words (wordsIn t least most) ∷ amount ∷ date ∷ moment ∷ narrative ∷ poolNarrative ∷ []) other h)
 
 -- ---- the lines
 

@@ -10,15 +10,18 @@ use lib.ListN.{length, drop, getD}
 use borrow.Author.Tests.{eqb-true}
 use Rattle.text.specs.Bytes.{bytes}
 use Rattle.text.specs.Classes.{isDigit, isBetween}
-use Rattle.text.proofs.Laws.{and-left, and-right, and-both}
+use Rattle.text.proofs.Codes.{code-all}
+use Rattle.text.proofs.Laws.{no-bytes, and-left, and-right, and-both}
 use Rattle.text.proofs.Printed.{printed, printed-append, between, digits-printed, codes-printed, allPrinted}
 use Rattle.amount.specs.Amounts.{whole, decimals, isAmount}
 use Rattle.amount.proofs.Laws.{amount-split, amount-fit}
-use Rattle.forms.specs.Forms.{Form, Slot, nothing, codes, words, amount, date, moment, narrative, other, wordAt, isWord, formNumber, valueNumber}
-use Rattle.forms.specs.Narrative.{services, serviceIn, hasPeriod, periodIn, hasReason, reasonIn, isNarrative}
-use Rattle.forms.proofs.Laws.{unless-good, value-behind, code-all, word-at, amount-good, date-good, moment-good}
-use Rattle.forms.proofs.Narratives as Narratives
-use Rattle.forms.proofs.Narratives.{periodPart, reasonPart, worded, period-digit, reason-code, narrative-is}
+use Rattle.reason.proofs.Laws.{reason-printed}
+use Rattle.forms.specs.Forms.{Form, Slot, nothing, codes, words, amount, date, moment, narrative, poolNarrative, other, wordAt, isWord, formNumber, valueNumber}
+use Rattle.forms.specs.Narrative.{services, serviceIn, hasPeriod, periodIn, behindPeriod, isNarrative}
+use Rattle.forms.specs.Pool.{hasCdr, hasDelivery, deliveryIn, behindDelivery, poolNumber}
+use Rattle.forms.proofs.Laws.{unless-good, value-behind, word-at, amount-good, date-good, moment-good}
+use Rattle.forms.proofs.Narratives.{periodPart, worded, period-digit, good-reason, narrative-is}
+use Rattle.forms.proofs.PoolNarratives.{cdrPart, deliveryPart, delivery-date, pool-reason, pool-is}
 
 -- a form takes printable values only
 unfoldable pub printedForm : Form → Bool
@@ -29,6 +32,7 @@ printedForm amount = true
 printedForm date = true
 printedForm moment = true
 printedForm narrative = true
+printedForm poolNarrative = true
 printedForm other = false
 
 -- ---- each form
@@ -61,31 +65,47 @@ module _ (v : List ℕ) (is : isNarrative v ≡ true) where
       go true h = and-both (between 48 57 (periodIn v) (omega arith) (omega arith) (period-digit v is h)) refl
       go false h = refl
 
-  reason-printed : printed (reasonPart v) ≡ true
-  unfolding printed isBetween bytes
-  reason-printed = go (hasReason v) refl
-    where
-      go : (b : Bool) → hasReason v ≡ b → printed (cond b (bytes "/DKRS" ++ reasonIn v) []) ≡ true
-      go true h = codes-printed (reasonIn v) (code-all 4 4 (reasonIn v) (reason-code v is h))
-      go false h = refl
-
   pub narrative-printed : printed v ≡ true
   unfolding printed isBetween bytes
   narrative-printed =
       ap printed (narrative-is v is)
-      ∙ printed-append (serviceIn v) (periodPart v ++ reasonPart v) service-printed (printed-append (periodPart v) (reasonPart v) period-printed reason-printed)
+      ∙ printed-append (serviceIn v) _ service-printed (printed-append (periodPart v) _ period-printed (reason-printed (behindPeriod v) (good-reason v is)))
+
+module _ (v : List ℕ) (is : poolNumber v ≡ 0) where
+  cdr-printed : printed (cdrPart v) ≡ true
+  unfolding printed isBetween bytes
+  cdr-printed = go (hasCdr v)
+    where
+      go : (b : Bool) → printed (cond b (bytes "/CDRY") []) ≡ true
+      go true = refl
+      go false = refl
+
+  delivery-printed : printed (deliveryPart v) ≡ true
+  unfolding printed isBetween bytes
+  delivery-printed = go (hasDelivery v) refl
+    where
+      go : (b : Bool) → hasDelivery v ≡ b → printed (cond b (bytes "/DDTE" ++ deliveryIn v) []) ≡ true
+      go true h = digits-printed (deliveryIn v) (delivery-date v is h .0)
+      go false h = refl
+
+  pub pool-printed : printed v ≡ true
+  unfolding printed isBetween bytes
+  pool-printed =
+      ap printed (pool-is v is)
+      ∙ printed-append (cdrPart v) _ cdr-printed (printed-append (deliveryPart v) _ delivery-printed (reason-printed (behindDelivery v) (pool-reason v is)))
 
 -- ---- every form
 
 pub form-printed : (f : Form) (v : List ℕ) → printedForm f ≡ true → formNumber f v ≡ 0 → printed v ≡ true
 unfolding printedForm formNumber printed
-form-printed nothing v p h = ap printed (Narratives.nothing v (eqb-true (length v) 0 (unless-good _ h)))
+form-printed nothing v p h = ap printed (no-bytes v (eqb-true (length v) 0 (unless-good _ h)))
 form-printed (codes least most) v p h = codes-printed v (code-all least most v (unless-good _ h))
 form-printed (words ws) v p h = word-printed ws v p (unless-good _ h)
 form-printed amount v p h = amount-printed v (amount-good v h)
 form-printed date v p h = digits-printed v (date-good v h .0)
 form-printed moment v p h = digits-printed v (moment-good v h .0)
 form-printed narrative v p h = narrative-printed v (unless-good _ h)
+form-printed poolNarrative v p h = pool-printed v h
 form-printed other v p h = let z : _≡_ {A = ℕ} 0 1 = cc in absurd (omega arith)
 
 pub value-printed : (slot : Slot) (v : List ℕ) → printedForm (slot .form) ≡ true → printed (slot .fixed) ≡ true → valueNumber slot v ≡ 0 → printed v ≡ true

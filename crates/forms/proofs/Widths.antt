@@ -9,12 +9,16 @@ use native.Mathlib.Omega.{arith}
 use lib.ListN.{length, drop, getD, length-append, length-take}
 use borrow.Author.Tests.{leb-true, eqb-true}
 use Rattle.text.specs.Bytes.{bytes}
+use Rattle.text.proofs.Codes.{code-most}
 use Rattle.text.proofs.Laws.{and-left}
 use Rattle.amount.specs.Amounts.{isAmount}
-use Rattle.forms.specs.Forms.{Form, Slot, nothing, codes, words, amount, date, moment, narrative, other, wordAt, isWord, formNumber, valueNumber}
-use Rattle.forms.specs.Narrative.{serviceIn, hasPeriod, periodIn, hasReason, reasonIn, isNarrative}
-use Rattle.forms.proofs.Laws.{unless-good, value-behind, code-most, word-at, amount-good, date-good, moment-good}
-use Rattle.forms.proofs.Narratives.{periodPart, reasonPart, reason-code, narrative-is}
+use Rattle.reason.proofs.Laws.{reasonPart, reason-width}
+use Rattle.forms.specs.Forms.{Form, Slot, nothing, codes, words, amount, date, moment, narrative, poolNarrative, other, wordAt, isWord, formNumber, valueNumber}
+use Rattle.forms.specs.Narrative.{serviceIn, hasPeriod, periodIn, behindPeriod, isNarrative}
+use Rattle.forms.specs.Pool.{hasCdr, hasDelivery, deliveryIn, behindDelivery, poolNumber}
+use Rattle.forms.proofs.Laws.{unless-good, value-behind, word-at, amount-good, date-good, moment-good}
+use Rattle.forms.proofs.Narratives.{periodPart, good-reason, narrative-is}
+use Rattle.forms.proofs.PoolNarratives.{cdrPart, deliveryPart, delivery-date, pool-reason, pool-is}
 
 unfoldable pub longest : List (List ℕ) → ℕ
 longest [] = 0
@@ -28,6 +32,7 @@ formWidth amount = 15
 formWidth date = 8
 formWidth moment = 14
 formWidth narrative = 24
+formWidth poolNarrative = 36
 formWidth other = 0
 
 -- all forms but that which takes any text
@@ -39,6 +44,7 @@ bounded amount = true
 bounded date = true
 bounded moment = true
 bounded narrative = true
+bounded poolNarrative = true
 bounded other = false
 
 -- ---- each form
@@ -69,23 +75,43 @@ module _ (v : List ℕ) (is : isNarrative v ≡ true) where
       go true = omega arith
       go false = omega arith
 
-  reason-width : length (reasonPart v) ≤ 9
-  unfolding bytes
-  reason-width = go (hasReason v) refl
-    where
-      go : (b : Bool) → hasReason v ≡ b → length (cond b (bytes "/DKRS" ++ reasonIn v) []) ≤ 9
-      go true h = let l = code-most 4 4 (reasonIn v) (reason-code v is h) in omega arith
-      go false h = omega arith
-
   pub narrative-width : length v ≤ 24
   unfolding bytes
   narrative-width =
       let a = service-width in
       let b = period-width in
-      let c = reason-width in
-      let l = length-append (serviceIn v) (periodPart v ++ reasonPart v) in
-      let m = length-append (periodPart v) (reasonPart v) in
+      let c = reason-width (behindPeriod v) (good-reason v is) in
+      let l = length-append (serviceIn v) (periodPart v ++ reasonPart (behindPeriod v)) in
+      let m = length-append (periodPart v) (reasonPart (behindPeriod v)) in
       let e = ap length (narrative-is v is) in
+      omega arith
+
+module _ (v : List ℕ) (is : poolNumber v ≡ 0) where
+  cdr-width : length (cdrPart v) ≤ 5
+  unfolding bytes
+  cdr-width = go (hasCdr v)
+    where
+      go : (b : Bool) → length (cond b (bytes "/CDRY") []) ≤ 5
+      go true = omega arith
+      go false = omega arith
+
+  delivery-width : length (deliveryPart v) ≤ 13
+  unfolding bytes
+  delivery-width = go (hasDelivery v) refl
+    where
+      go : (b : Bool) → hasDelivery v ≡ b → length (cond b (bytes "/DDTE" ++ deliveryIn v) []) ≤ 13
+      go true h = let l = delivery-date v is h .1 in omega arith
+      go false h = omega arith
+
+  pub pool-width : length v ≤ 36
+  unfolding bytes
+  pool-width =
+      let a = cdr-width in
+      let b = delivery-width in
+      let c = reason-width (behindDelivery v) (pool-reason v is) in
+      let l = length-append (cdrPart v) (deliveryPart v ++ reasonPart (behindDelivery v)) in
+      let m = length-append (deliveryPart v) (reasonPart (behindDelivery v)) in
+      let e = ap length (pool-is v is) in
       omega arith
 
 -- ---- every form
@@ -99,6 +125,7 @@ form-width amount v b h = amount-width v (amount-good v h)
 form-width date v b h = let e = date-good v h .1 in omega arith
 form-width moment v b h = let e = moment-good v h .1 in omega arith
 form-width narrative v b h = narrative-width v (unless-good _ h)
+form-width poolNarrative v b h = pool-width v h
 form-width other v b h = let z : _≡_ {A = ℕ} 0 1 = cc in absurd (omega arith)
 
 -- with the fixed text in front

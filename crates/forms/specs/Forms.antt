@@ -11,14 +11,16 @@ use Rattle.text.specs.Bytes.{begins}
 use Rattle.amount.specs.Amounts.{amountRead, amountNumber}
 use Rattle.calendar.specs.Dates.{dateRead, dateNumber, momentRead, momentNumber}
 use Rattle.forms.specs.Narrative.{isNarrative}
+use Rattle.forms.specs.Pool.{poolNumber}
 unfoldable pub use Rattle.forms.specs.Words.{wordAt, isWord}
 use Rattle.text.specs.Classes.{isCode}
 
---   nothing     no more than the fixed text
---   codes       from a least to a most number of c
---   words       one of some words
---   narrative   a service, and perhaps a period and a reason
---   other       any text
+--   nothing         no more than the fixed text
+--   codes           from a least to a most number of c
+--   words           one of some words
+--   narrative       a service, and perhaps a period and a reason
+--   poolNarrative   POOL, and perhaps the word CDRY, a date and a reason
+--   other           any text
 pub data Form : Type 0 where
   nothing : Form
   codes : ℕ → ℕ → Form
@@ -27,6 +29,7 @@ pub data Form : Type 0 where
   date : Form
   moment : Form
   narrative : Form
+  poolNarrative : Form
   other : Form
 
 pub record Slot : Type 0 where
@@ -45,6 +48,7 @@ formNumber amount v = amountNumber (amountRead v)
 formNumber date v = dateNumber (dateRead v)
 formNumber moment v = momentNumber (momentRead v)
 formNumber narrative v = unless (isNarrative v)
+formNumber poolNarrative v = poolNumber v
 formNumber other v = 0
 
 -- all that follows a slot's qualifier

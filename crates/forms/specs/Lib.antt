@@ -1,7 +1,9 @@
 pub mod Words
 pub mod Narrative
+pub mod Pool
 pub mod Forms
 pub mod Notation
 pub mod Slots
 pub mod Cases
+pub mod PoolCases
 pub mod Samples

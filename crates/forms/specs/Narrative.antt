@@ -3,10 +3,10 @@
 use Prim.Native.Nat.{ℕ}
 use mathlib.Core.Bool.{Bool, _&&_, _||_, not, cond}
 use mathlib.Core.List.{List, [], _∷_}
-use lib.Dec.{eqb}
-use lib.ListN.{length, take, drop, getD}
+use lib.ListN.{take, drop, getD}
 use Rattle.text.specs.Bytes.{bytes, begins}
-use Rattle.text.specs.Classes.{isDigit, isCode}
+use Rattle.text.specs.Classes.{isDigit}
+use Rattle.reason.specs.Reason.{goodReason}
 use Rattle.forms.specs.Words.{isWord}
 
 abbrev pub services : List (List ℕ)
@@ -26,19 +26,9 @@ periodIn v = getD (drop 9 v) 5 0
 unfoldable pub behindPeriod : List ℕ → List ℕ
 behindPeriod v = cond (hasPeriod v) (drop 15 v) (drop 9 v)
 
-unfoldable pub hasReason : List ℕ → Bool
-hasReason v = begins (bytes "/DKRS") (behindPeriod v)
-
-unfoldable pub reasonIn : List ℕ → List ℕ
-reasonIn v = cond (hasReason v) (drop 5 (behindPeriod v)) []
-
 -- a period, where there is one, is one digit
 unfoldable pub goodPeriod : List ℕ → Bool
 goodPeriod v = not (hasPeriod v) || isDigit (periodIn v)
 
--- a reason, where there is one, is 4 c; and nothing else stands behind the period
-unfoldable pub goodReason : List ℕ → Bool
-goodReason v = cond (hasReason v) (isCode 4 4 (reasonIn v)) (eqb (length (behindPeriod v)) 0)
-
 unfoldable pub isNarrative : List ℕ → Bool
-isNarrative v = begins (bytes "/TDSV") v && (isWord services (serviceIn v) && (goodPeriod v && goodReason v))
+isNarrative v = begins (bytes "/TDSV") v && (isWord services (serviceIn v) && (goodPeriod v && goodReason (behindPeriod v)))

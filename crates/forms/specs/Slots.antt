@@ -8,7 +8,7 @@ use mathlib.Core.List.{List, [], _∷_}
 use lib.Dec.{leb}
 use lib.ListN.{length, take, drop, getD}
 use Rattle.text.specs.Bytes.{parts}
-use Rattle.forms.specs.Forms.{Form, Slot, nothing, codes, words, amount, date, moment, narrative, other}
+use Rattle.forms.specs.Forms.{Form, Slot, nothing, codes, words, amount, date, moment, narrative, poolNarrative, other}
 
 -- words of four letters that stand one behind the other
 unfoldable pub wordsOf : List ℕ → List (List ℕ)
@@ -37,7 +37,7 @@ wordsIn t first (suc count) = textIn t first ∷ wordsIn t (suc first) count
 -- the forms are numbered as they stand here, from 0, and any other number is a form that takes any text
 unfoldable pub formOf : List ℕ → ℕ → ℕ → ℕ → Form
 formOf t kind least most =
-    getD (nothing ∷ codes least most ∷ words (wordsIn t least most) ∷ amount ∷ date ∷ moment ∷ narrative ∷ []) kind other
+    getD (nothing ∷ codes least most ∷ words (wordsIn t least most) ∷ amount ∷ date ∷ moment ∷ narrative ∷ poolNarrative ∷ []) kind other
 
 unfoldable pub formIn : List ℕ → ℕ → Form
 formIn t line = let s = lineIn t line in cond (reaches t line) (formOf t (getD s 0 0) (getD s 1 0) (getD s 2 0)) other

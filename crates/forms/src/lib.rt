@@ -1,8 +1,9 @@
 // The values of lines: each is judged by the fixed text and the form of its slot.
 //
 // Nothing here knows a slot: a message type hands its slots over as bytes. What is right stands in specs/Forms and specs/Slots,
-// over specs/Words and specs/Narrative.
+// over specs/Words, specs/Narrative and specs/Pool.
 pub mod narrative;
+pub mod pool;
 
 use amount::Amount;
 use calendar::Date;
@@ -87,6 +88,7 @@ fn judge_form(slots: &[u8], line: &[u8], value: &[u8]) -> u64
         4 => Date::read(value).number(),
         5 => Moment::read(value).number(),
         6 => unless(narrative::is_narrative(value)),
+        7 => pool::number(value),
         _ => 0,
     }
 }

@@ -3,12 +3,12 @@ use text::Class;
 ghost use mathlib.Core.Path.{_≡_};
 ghost use lib.ListN.{drop};
 ghost use Rattle.forms.specs.Words.{wordAt};
-ghost use Rattle.forms.specs.Narrative.{services, serviceIn, hasPeriod, periodIn, behindPeriod, hasReason, reasonIn, goodPeriod, goodReason, isNarrative};
+ghost use Rattle.forms.specs.Narrative.{services, serviceIn, hasPeriod, periodIn, behindPeriod, goodPeriod, isNarrative};
 
 const SERVICES: [u8; 12] = *b"SBODTFTDSTIP";
 
 // What is left of a value from a place on.
-fn from(value: &[u8], place: usize) -> &[u8]
+pub(crate) fn from(value: &[u8], place: usize) -> &[u8]
     ensures { λ r. ⌜ now r ≡ drop place (now (value .entry)) ⌝ }
 {
     if value.len() < place {
@@ -50,30 +50,13 @@ pub fn period_in(value: &[u8]) -> u8
 }
 
 // What is left behind the word, and behind the period where there is one.
-fn behind_period(value: &[u8]) -> &[u8]
+pub fn behind_period(value: &[u8]) -> &[u8]
     ensures { λ r. ⌜ now r ≡ behindPeriod (now (value .entry)) ⌝ }
 {
     if has_period(value) {
         from(value, 15)
     } else {
         from(value, 9)
-    }
-}
-
-fn has_reason(value: &[u8]) -> bool
-    ensures { λ r. ⌜ r ≡ hasReason (now (value .entry)) ⌝ }
-{
-    text::begins_with(behind_period(value), b"/DKRS")
-}
-
-// What stands behind `/DKRS`; nothing where there is none.
-pub fn reason_in(value: &[u8]) -> &[u8]
-    ensures { λ r. ⌜ now r ≡ reasonIn (now (value .entry)) ⌝ }
-{
-    if has_reason(value) {
-        from(behind_period(value), 5)
-    } else {
-        &value[..0]
     }
 }
 
@@ -85,17 +68,6 @@ fn good_period(value: &[u8]) -> bool
         text::in_class(Class::Digit, period_in(value))
     } else {
         true
-    }
-}
-
-// A reason, where there is one, is 4 c; and nothing else stands behind the period.
-fn good_reason(value: &[u8]) -> bool
-    ensures { λ r. ⌜ r ≡ goodReason (now (value .entry)) ⌝ }
-{
-    if has_reason(value) {
-        text::is_code(reason_in(value), 4, 4)
-    } else {
-        behind_period(value).len() == 0
     }
 }
 
@@ -112,5 +84,5 @@ pub fn is_narrative(value: &[u8]) -> bool
     if !good_period(value) {
         return false;
     }
-    good_reason(value)
+    reason::is_good(behind_period(value))
 }

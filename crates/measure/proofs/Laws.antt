@@ -19,7 +19,7 @@ use Rattle.text.proofs.Laws.{and-left, and-right, and-both, all-append, same-re
 use Rattle.text.proofs.Printed.{printed-append}
 use Rattle.amount.specs.Amounts.{isAmount, amountRead}
 use Rattle.amount.proofs.Laws.{fit-amount}
-use Rattle.forms.specs.Forms.{Form, Slot, nothing, codes, words, amount, date, moment, narrative, wordAt, isWord, unless, formNumber, valueNumber}
+use Rattle.forms.specs.Forms.{Form, Slot, nothing, codes, words, amount, date, moment, narrative, poolNarrative, wordAt, isWord, unless, formNumber, valueNumber}
 use Rattle.forms.specs.Narrative.{isNarrative}
 use Rattle.forms.specs.Slots.{wordsIn, formOf, slotAt}
 use Rattle.forms.proofs.Parts.{line-from, fixed-part, form-is}
@@ -96,6 +96,10 @@ moment-told s n = told moment s n (λ c. refl)
 pub narrative-told : (s : List ℕ) (n : ℕ) → n ≤ length s → isNarrative (take n s) ≡ true → FormMeasured narrative s (Is n)
 unfolding formNumber unless printedForm
 narrative-told s n h e = told narrative s n (λ c. refl) h (rw e)
+
+pub pool-told : (s : List ℕ) (n : ℕ) → n ≤ length s → formNumber poolNarrative (take n s) ≡ 0 → FormMeasured poolNarrative s (Is n)
+unfolding printedForm
+pool-told s n = told poolNarrative s n (λ c. refl)
 
 -- ---- a value
 

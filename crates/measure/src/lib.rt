@@ -9,7 +9,7 @@ ghost use mathlib.Core.Bool.{true};
 ghost use Prim.Native.Nat.{_+_, _≤_};
 ghost use lib.ListN.{length, take, getD};
 ghost use Rattle.text.specs.Classes.{allIn};
-ghost use Rattle.forms.specs.Forms.{codes, words, amount, date, moment, narrative};
+ghost use Rattle.forms.specs.Forms.{codes, words, amount, date, moment, narrative, poolNarrative};
 ghost use Rattle.forms.specs.Slots.{wordsIn, formOf, slotAt};
 ghost use Rattle.measure.specs.Measure.{FixedMeasured, FormMeasured, Measured};
 
@@ -114,7 +114,7 @@ fn moment_width(text: &[u8]) -> Width
 // The place behind a part of a narrative, of `width` bytes that begin with a key; the same place where there is no such part. Nothing
 // more is said: whether these parts make a narrative is asked of all of them together.
 fn behind_part(text: &[u8], at: usize, key: &[u8], width: usize) -> usize
-    requires { ⌜ at + width ≤ 24 ⌝ }
+    requires { ⌜ at + width ≤ 36 ⌝ }
     ensures { λ r. ⌜ r ≤ at + width ⌝ }
 {
     if text.len() < at {
@@ -143,6 +143,23 @@ fn narrative_width(text: &[u8]) -> Width
     }
 }
 
+// That of a pool netting member is nine bytes, and then CDRY, a delivery date and a reason where their keys stand.
+fn pool_width(text: &[u8]) -> Width
+    ensures { λ r. ⌜ FormMeasured poolNarrative (now (text .entry)) r ⌝ }
+{
+    let cdr = behind_part(text, 9, b"/CDRY", 5);
+    let delivery = behind_part(text, cdr, b"/DDTE", 13);
+    let n = behind_part(text, delivery, b"/DKRS", 9);
+    if text.len() < n {
+        return Width::Not;
+    }
+    if forms::pool::number(&text[..n]) == 0 {
+        Width::Is(n)
+    } else {
+        Width::Not
+    }
+}
+
 // What follows the fixed text of a slot, by the slot's line.
 fn form_width(slots: &[u8], line: &[u8], text: &[u8]) -> Width
     requires { ⌜ length (now line) ≡ 20 ⌝ }
@@ -159,6 +176,7 @@ fn form_width(slots: &[u8], line: &[u8], text: &[u8]) -> Width
         4 => date_width(text),
         5 => moment_width(text),
         6 => narrative_width(text),
+        7 => pool_width(text),
         _ => Width::Not,
     }
 }

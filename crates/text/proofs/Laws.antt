@@ -35,6 +35,10 @@ and-both p q = rw (p, q)
 
 -- ---- parts
 
+pub no-bytes : (s : List ℕ) → length s ≡ 0 → s ≡ []
+no-bytes [] e = refl
+no-bytes (b ∷ s) e = let z : ⊥ = omega arith in absurd z
+
 -- a part that runs to the end of n bytes is what is left of them
 pub rest-of : (k n : ℕ) (l : List ℕ) → length l ≡ n → take (n - k) (drop k l) ≡ drop k l
 rest-of k n l e = take-all (n - k) (drop k l) (rw (length-drop, e) (omega arith))
@@ -105,6 +109,9 @@ before-front b (x ∷ s) = go (before-front b s) (eqb x b)
     go ih true = refl
     go ih false = ap (λ (l : List ℕ). x ∷ l) ih
 
+pub before-rest : (b : ℕ) (s : List ℕ) → s ≡ before b s ++ drop (length (before b s)) s
+before-rest b s = sym (take-append-drop (length (before b s)) s) ∙ rw before-front
+
 -- where it is not all of the part, that byte and the rest stand behind it
 pub before-split : (b : ℕ) (s : List ℕ) → length (before b s) < length s → s ≡ before b s ++ b ∷ drop (suc (length (before b s))) s
 unfolding before
@@ -117,7 +124,14 @@ before-split b (x ∷ s) h = go (before-split b s) (eqb x b) refl h
     go ih true e h = rw (eqb-true x b e)
     go ih false e h = ap (λ (l : List ℕ). x ∷ l) (ih (le-of-suc-le-suc h))
 
--- a part that does not hold the byte stands whole before it
+-- a part that does not hold the byte is all that stands before it, alone or with the byte behind it
+pub before-all : (k : Class) (b : ℕ) → (inClass k b ≡ false) → (s : List ℕ) → allIn k s ≡ true → before b s ≡ s
+unfolding before allIn
+before-all k b n [] e = refl
+before-all k b n (x ∷ s) e =
+    let other : x ≡ b → ⊥ = λ h. true≢false (sym (and-left _ _ e) ∙ ap (inClass k) h ∙ n) in
+    rw (ne-eqb x b other, before-all k b n s (and-right (inClass k x) _ e))
+
 pub before-of : (k : Class) (b : ℕ) → (inClass k b ≡ false) → (s t : List ℕ) → allIn k s ≡ true → before b (s ++ b ∷ t) ≡ s
 unfolding before allIn
 before-of k b n [] t e = rw (eq-eqb b b refl)

@@ -1,4 +1,5 @@
 pub mod Bools
+pub mod Codes
 pub mod Laws
 pub mod Printed
 pub mod Scans

@@ -4,7 +4,7 @@ use Rattle.amount.specs.Amounts.{amountNumber}
 use Rattle.calendar.specs.Dates.{dateNumber, momentNumber}
 use Rattle.forms.specs.Forms.{unless, formNumber}
 use Rattle.forms.specs.Slots.{formOf}
-use Rattle.forms.proofs.Parts.{words-number, past-six, no-form}
+use Rattle.forms.proofs.Parts.{words-number, past-seven, no-form}
 use borrow.Author.Needs.{needs}
 use Rattle.forms.proofs.judge_form.Statement.{statement}
 use Rattle.forms.proofs.judge_form.Tie as tie
@@ -72,6 +72,9 @@ is-narrative-requires c κs = search needs
 unless-requires-4 : tie.Need-unless-requires-4
 unless-requires-4 c κs = search needs
 
+number-requires-4 : tie.Need-number-requires-4
+number-requires-4 c κs = search needs
+
 returns : tie.Need-returns
 unfolding formOf formNumber
 returns c = rw (c .before .match .keys1) (c .unless .ensures)
@@ -106,9 +109,13 @@ returns-7 c = rw (c .before .before .match .keys7) (c .unless4 .ensures ∙ ap u
 
 returns-8 : tie.Need-returns-8
 unfolding formOf formNumber
-returns-8 c =
+returns-8 c = rw (c .before .match .keys8) (c .number4 .ensures)
+
+returns-9 : tie.Need-returns-9
+unfolding formOf formNumber
+returns-9 c =
     let r = c .match .rest in
-    no-form _ _ _ _ _ (past-six _ (r .0 .0 .0 .0 .0 .0 .1) (r .0 .0 .0 .0 .0 .1) (r .0 .0 .0 .0 .1) (r .0 .0 .0 .1) (r .0 .0 .1) (r .0 .1) (r .1))
+    no-form _ _ _ _ _ (past-seven _ (r .0 .0 .0 .0 .0 .0 .0 .1) (r .0 .0 .0 .0 .0 .0 .1) (r .0 .0 .0 .0 .0 .1) (r .0 .0 .0 .0 .1) (r .0 .0 .0 .1) (r .0 .0 .1) (r .0 .1) (r .1))
 
 pub judge-form-spec : {M : Type 1} → statement M
 judge-form-spec =
@@ -133,6 +140,7 @@ judge-form-spec =
     number-requires-3
     is-narrative-requires
     unless-requires-4
+    number-requires-4
     returns
     returns-2
     returns-3
@@ -140,4 +148,5 @@ judge-form-spec =
     returns-5
     returns-6
     returns-7
-    returns-8)
+    returns-8
+    returns-9)

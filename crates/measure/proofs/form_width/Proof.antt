@@ -33,6 +33,9 @@ moment-width-requires c κs = search needs
 narrative-width-requires : tie.Need-narrative-width-requires
 narrative-width-requires c κs = search needs
 
+pool-width-requires : tie.Need-pool-width-requires
+pool-width-requires c κs = search needs
+
 returns : tie.Need-returns
 unfolding formOf
 returns c = rw (c .match .keys1) (nothing-told _)
@@ -62,8 +65,12 @@ unfolding formOf
 returns-7 c = rw (c .before .match .keys7) (c .narrative-width .ensures)
 
 returns-8 : tie.Need-returns-8
+unfolding formOf
+returns-8 c = rw (c .before .match .keys8) (c .pool-width .ensures)
+
+returns-9 : tie.Need-returns-9
 unfolding FormMeasured
-returns-8 c = tt
+returns-9 c = tt
 
 pub form-width-spec : {M : Type 1} → statement M
 form-width-spec =
@@ -78,6 +85,7 @@ form-width-spec =
     date-width-requires
     moment-width-requires
     narrative-width-requires
+    pool-width-requires
     returns
     returns-2
     returns-3
@@ -85,4 +93,5 @@ form-width-spec =
     returns-5
     returns-6
     returns-7
-    returns-8)
+    returns-8
+    returns-9)

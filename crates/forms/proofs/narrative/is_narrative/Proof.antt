@@ -1,7 +1,8 @@
 -- `forms::narrative::is_narrative` meets its contract: its tests come in the order of the definition. Assumes nothing.
-use mathlib.Core.Path.{sym, _∙_}
+use mathlib.Core.Path.{sym, ap, _∙_}
 use borrow.Author.Tests.{not-true, not-false}
 use Rattle.text.specs.Bytes.{bytes}
+use Rattle.reason.specs.Reason.{goodReason}
 use Rattle.forms.specs.Narrative.{isNarrative}
 use Rattle.forms.proofs.Parts.{service-none, service-one}
 use borrow.Author.Needs.{needs}
@@ -41,17 +42,21 @@ returns-3 c =
       sym (c .before .good-period .ensures) ∙ not-true _ (c .if3 .taken),
     )
 
-good-reason-requires : tie.Need-good-reason-requires
-good-reason-requires c κs = search needs
+behind-period-requires : tie.Need-behind-period-requires
+behind-period-requires c κs = search needs
+
+is-good-requires : tie.Need-is-good-requires
+is-good-requires c κs = search needs
 
 returns-4 : tie.Need-returns-4
 unfolding isNarrative bytes
 returns-4 c =
+    let p = c .before in
     rw (
-      sym (c .before .before .before .before .before .before .begins-with .ensures) ∙ not-false _ (c .before .before .before .before .before .if1 .left),
-      service-one _ _ (c .before .before .before .before .service-at .ensures) (c .before .before .before .if2 .left),
-      sym (c .before .before .good-period .ensures) ∙ not-false _ (c .before .if3 .left),
-    ) (c .good-reason .ensures)
+      sym (p .before .before .before .before .before .before .begins-with .ensures) ∙ not-false _ (p .before .before .before .before .before .if1 .left),
+      service-one _ _ (p .before .before .before .before .service-at .ensures) (p .before .before .before .if2 .left),
+      sym (p .before .before .good-period .ensures) ∙ not-false _ (p .before .if3 .left),
+    ) (c .is-good .ensures ∙ ap goodReason (p .behind-period .ensures))
 
 pub is-narrative-spec : {M : Type 1} → statement M
 is-narrative-spec =
@@ -64,5 +69,6 @@ is-narrative-spec =
     returns-2
     good-period-requires
     returns-3
-    good-reason-requires
+    behind-period-requires
+    is-good-requires
     returns-4)

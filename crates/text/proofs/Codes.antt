@@ -1,0 +1,42 @@
+-- What callers cite of codes, which are so many c: what they are, and that a code and the text that holds it tell each other.
+-- Assumes nothing.
+use Prim.Native.Nat.{ℕ, _≤_}
+use mathlib.Core.Path.{_≡_, _∙_}
+use mathlib.Core.Bool.{true}
+use mathlib.Core.List.{List}
+use native.Mathlib.Omega.{arith}
+use lib.Dec.{leb}
+use lib.ListN.{length, length-take}
+use borrow.Author.Tests.{leb-true, le-leb}
+use Rattle.text.specs.Classes.{allIn, isCode}
+use Rattle.text.specs.Texts.{contents, textOf, inForm}
+use Rattle.text.specs.declared.Class.the-variants.{C}
+use Rattle.text.specs.declared.Text.{Text}
+use Rattle.text.proofs.Laws.{and-left, and-right, contents-of, in-form-of, in-form-facts, length-contents}
+
+pub code-most : (least most : ℕ) (v : List ℕ) → isCode least most v ≡ true → length v ≤ most
+unfolding isCode
+code-most least most v e = leb-true (length v) most (and-left _ _ (and-right (leb least (length v)) _ e))
+
+pub code-all : (least most : ℕ) (v : List ℕ) → isCode least most v ≡ true → allIn C v ≡ true
+unfolding isCode
+code-all least most v e = and-right (leb (length v) most) _ (and-right (leb least (length v)) _ e)
+
+-- a code is held as a text in form, and that text is written as the code
+pub code-text : (least most : ℕ) (v : List ℕ) → most ≤ 20 → isCode least most v ≡ true → (inForm least most (textOf v) ≡ true) × (contents (textOf v) ≡ v)
+unfolding isCode
+code-text least most v h e =
+    let n : length v ≤ most = code-most least most v e in
+    let short : length v ≤ 20 = omega arith in
+    (in-form-of v short least most ∙ e, contents-of v short)
+
+pub text-code : (least most : ℕ) (t : Text) → inForm least most t ≡ true → isCode least most (contents t) ≡ true
+unfolding isCode
+text-code least most t e =
+    let f = in-form-facts least most t e in
+    rw (length-contents least most t e, le-leb _ _ (f .2), le-leb _ _ (f .3), f .4)
+
+-- a text has no more bytes than its room
+pub contents-short : (t : Text) → length (t .bytes) ≡ 20 → length (contents t) ≤ 20
+unfolding contents
+contents-short t e = let l = length-take (t .len) (t .bytes) in omega arith
