@@ -1,19 +1,20 @@
 -- Values put one behind the other: a value, then another, and all of them; and that where all have room, the stretch of a slot is
 -- its value.
 -- Assumes nothing.
-use Prim.Native.Nat.{ℕ, zero, suc, _+_, _-_, _≤_, _<_}
+use Prim.Native.Nat.{ℕ, zero, suc, _+_, _-_, _≤_}
 use mathlib.Core.Path.{_≡_, refl, sym, ap, _∙_}
 use mathlib.Core.Bool.{Bool, true, false, _&&_, cond}
-use mathlib.Core.List.{List, [], _∷_, _++_, append-assoc, append-nil, flatten}
+use mathlib.Core.List.{List, [], _∷_, _++_, append-assoc, flatten}
 use native.Mathlib.Nat.{add-zero, add-suc, suc-add, zero-sub}
 use native.Mathlib.Omega.{arith}
 use lib.Dec.{leb}
-use lib.ListN.{length, take, drop, getD, set, length-append, length-set, drop-of-length-le}
-use lib.Seq.{sets, sets-eq, take-at, drop-at, drop-cons, drop-length}
+use lib.ListN.{length, take, drop, getD, set, length-append}
+use lib.Seq.{sets, take-at, drop-at}
 use borrow.Author.Tests.{le-leb}
 use Rattle.text.specs.Copy.{over, fits, placed, after}
 use Rattle.text.proofs.Laws.{put-none, length-placed}
 use Rattle.stretches.specs.Stretches.{between, stretchOf}
+use Rattle.stretches.proofs.Handing.{sets-all}
 use Rattle.fill.specs.Runs.{overRun, behindRun}
 use Rattle.fill.proofs.Runs.{then, flat-append, end-of, whole}
 use Rattle.fill.specs.Places.{ends}
@@ -53,11 +54,6 @@ sets-append : (es fs : List ℕ) (ps : List ℕ) (k : ℕ) → sets ps k (es ++ 
 sets-append [] fs ps k = rw add-zero
 sets-append (e ∷ es) fs ps k = sets-append es fs (set ps k e) (suc k) ∙ rw (suc-add, add-suc)
 
-sets-all : (es ps : List ℕ) → length ps ≡ length es → sets ps 0 es ≡ es
-sets-all es ps h =
-    let e : 0 + length es ≡ length ps = omega arith in
-    sets-eq es ps 0 (omega arith) ∙ ap (λ (l : List ℕ). es ++ l) (rw e (drop-length ps)) ∙ append-nil es
-
 -- the same with the places kept from the k-th on, which is what each block says
 abbrev pub Stored : List ℕ → List ℕ → ℕ → ℕ → List (List ℕ) → ℕ → List ℕ → List ℕ → ℕ → Type 0
 Stored buf ps at k vs r now qs n = (r ≡ behindRun buf at vs) × (now ≡ overRun buf at vs) × (qs ≡ sets ps k (ends buf at vs)) × (length (flatten vs) ≤ n)
@@ -91,17 +87,6 @@ more buf ps at k l vs ws n m g p q =
 pub all-places : (buf ps : List ℕ) (vs : List (List ℕ)) {r : ℕ} {now qs : List ℕ} (n : ℕ) → length ps ≡ suc (length vs)
     → Stored buf (set ps 0 0) 0 1 vs r now qs n → (now ≡ overRun buf 0 vs) × (qs ≡ 0 ∷ ends buf 0 vs) × (length (flatten vs) ≤ n)
 all-places buf ps vs n h p = (p .1, p .2 ∙ sets-all (0 ∷ ends buf 0 vs) ps (h ∙ ap suc (sym (length-ends vs buf 0))), p .3)
-
--- the loop that keeps them
-pub keep-more : (ps qs es : List ℕ) (k i : ℕ) → i < length es → (sets qs (k + i) (drop i es) ≡ sets ps k es) × (length qs ≡ length ps)
-    → (sets (set qs (k + i) (getD es i 0)) (k + (i + 1)) (drop (i + 1) es) ≡ sets ps k es) × (length (set qs (k + i) (getD es i 0)) ≡ length ps)
-keep-more ps qs es k i h e =
-    let n : k + (i + 1) ≡ suc (k + i) = omega arith in
-    let m : i + 1 ≡ suc i = omega arith in
-    (rw (n, m) (ap (λ (l : List ℕ). sets qs (k + i) l) (sym (drop-cons es i 0 h)) ∙ e .0), length-set qs (k + i) (getD es i 0) ∙ e .1)
-
-pub keep-done : (ps qs es : List ℕ) (k i : ℕ) → length es ≤ i → sets qs (k + i) (drop i es) ≡ sets ps k es → qs ≡ sets ps k es
-keep-done ps qs es k i h e = rw (drop-of-length-le es h) at e
 
 -- ---- where all have room, the stretch of a slot is its value
 

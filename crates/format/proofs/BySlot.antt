@@ -3,22 +3,24 @@
 -- Assumes nothing.
 use Prim.Native.Nat.{ℕ, zero, suc, _+_, _≤_, _<_}
 use mathlib.Core.Path.{_≡_, refl, sym, ap, _∙_}
-use mathlib.Core.Bool.{Bool, true, false, _&&_, _||_, true≢false}
+use mathlib.Core.Bool.{Bool, true, false, _&&_, _||_, true≢false, and-assoc}
 use mathlib.Core.List.{List, [], _∷_}
 use mathlib.Core.Logic.{_⊎_, inl, inr}
 use native.Mathlib.Nat.{add-zero, zero-add, add-suc, suc-add, not-suc-le-zero, le-of-suc-le-suc}
 use native.Mathlib.Omega.{arith}
 use lib.Dec.{leb, eqb}
-use lib.ListN.{length, getD}
+use lib.ListN.{length, take, drop, getD}
+use lib.Seq.{drop-drop}
 use borrow.Author.Tests.{le-leb, leb-true, ltb-true, eqb-true, eqb-false, eq-eqb}
 use Rattle.text.specs.Classes.{allIn, isCode}
 use Rattle.text.specs.Texts.{contents, textOf, inForm as textForm}
 use Rattle.text.specs.declared.Text.{Text}
 use Rattle.text.specs.declared.Class.the-variants.{C}
 use Rattle.text.proofs.Bools.{alike, or-case, or-one, or-two}
+use Rattle.text.proofs.Codes.{code-text, text-code}
 use Rattle.text.proofs.Laws.{and-left, and-right, and-both, text-is, contents-of, in-form-of, in-form-facts, length-contents}
 use Rattle.forms.specs.Forms.{Slot, codes, wordAt, isWord, unless, formNumber}
-use Rattle.forms.proofs.Laws.{code-most, unless-good, word-at}
+use Rattle.forms.proofs.Laws.{unless-good, word-at}
 use Rattle.sheets.specs.Trees.{Tree}
 use Rattle.format.specs.Format.{mayLack}
 use Rattle.format.specs.Writable.{fitted, hold}
@@ -55,21 +57,17 @@ unfolding hold
 hold-all [] h = refl
 hold-all (b ∷ bs) h = and-both (h 0 (omega arith)) (hold-all bs (λ i l. h (suc i) (omega arith)))
 
+-- a stretch of their list at a time
+pub hold-split : (k : ℕ) (bs : List Bool) → hold bs ≡ (hold (take k bs) && hold (drop k bs))
+unfolding hold
+hold-split zero bs = refl
+hold-split (suc k) [] = refl
+hold-split (suc k) (b ∷ bs) = rw (hold-split k bs) (sym (and-assoc b (hold (take k bs)) (hold (drop k bs))))
+
+pub hold-from : (k j : ℕ) (bs : List Bool) → hold (drop j bs) ≡ (hold (take k (drop j bs)) && hold (drop (j + k) bs))
+hold-from k j bs = hold-split k (drop j bs) ∙ ap (λ (l : List Bool). hold (take k (drop j bs)) && hold l) (drop-drop k j bs)
+
 -- ---- texts
-
--- a value of some c is held as a text in form, and that text is written as the value
-pub code-text : (least most : ℕ) (v : List ℕ) → most ≤ 20 → isCode least most v ≡ true → (textForm least most (textOf v) ≡ true) × (contents (textOf v) ≡ v)
-unfolding isCode
-code-text least most v h e =
-    let n : length v ≤ most = code-most least most v e in
-    let short : length v ≤ 20 = omega arith in
-    (in-form-of v short least most ∙ e, contents-of v short)
-
-pub text-code : (least most : ℕ) (t : Text) → textForm least most t ≡ true → isCode least most (contents t) ≡ true
-unfolding isCode
-text-code least most t e =
-    let f = in-form-facts least most t e in
-    rw (length-contents least most t e, le-leb _ _ (f .2), le-leb _ _ (f .3), f .4)
 
 -- what a text in form is by width, it is by every width that has room for its length
 narrowed : (least most low high : ℕ) (x : Text) → textForm low high x ≡ true → least ≤ x .len → x .len ≤ most → textForm least most x ≡ true

@@ -57,6 +57,18 @@ module _ (F : Format) where
     pub rules-accepted : (r : F .Held) → r ≡ F .recordOf value → v .number ≡ 0 → record { number = v .number; line = v .line; held = r } ≡ judged value
     rules-accepted r is h = accepted-is v r h ∙ rw (is, e)
 
+  -- the same in the type's own words, of a record and its rules as a program has them
+  module _ {A : Type 0} (told : Read (F .Held) → A) (value : ℕ → List ℕ) (r : F .Held) (is : r ≡ F .recordOf value) (v : Verdict) (e : v ≡ F .readRules value r) where
+    rules-are : v ≡ rulesOf F value
+    unfolding rulesOf
+    rules-are = e ∙ rw is
+
+    pub told-refused : (v .number ≡ 0 → ⊥) → told (blankly v) ≡ told (judged value)
+    told-refused h = ap told (rules-refused value v rules-are h)
+
+    pub told-accepted : v .number ≡ 0 → told (record { number = v .number; line = v .line; held = r }) ≡ told (judged value)
+    told-accepted h = ap told (rules-accepted value v rules-are r is h)
+
   -- ---- the passes in their order
 
   module _ (R : Readable F) (m : List ℕ) (r : Body) (e : r ≡ taken F m) where

@@ -1,5 +1,6 @@
 -- The longest message of any message type: where no value of a record has more bytes than some, its message has no more bytes than
--- one whose values have so many. And a value that gets 0 has no more bytes than its form takes.
+-- one whose values have so many. A value that gets 0 has no more bytes than its form takes; where the values of some slots have fewer,
+-- as a kind of record has it, the message has no more bytes than one filled in so (`capped-most`), which is computed.
 -- Assumes nothing.
 use Prim.Native.Nat.{ℕ, _+_, _≤_}
 use mathlib.Core.Path.{_≡_, refl, sym, ap, _∙_}
@@ -7,9 +8,11 @@ use mathlib.Core.Bool.{Bool, true, false, _&&_, cond}
 use mathlib.Core.List.{List, [], _∷_, _++_, map}
 use mathlib.Core.Logic.{inl, inr}
 use native.Mathlib.Omega.{arith}
-use lib.Dec.{eqb}
+use lib.Dec.{ltb, eqb}
 use lib.ListN.{length, replicate, length-append, length-replicate}
-use borrow.Author.Tests.{eqb-true, eqb-false}
+use borrow.Author.Tests.{ltb-false, eqb-true, eqb-false}
+use Rattle.text.specs.Texts.{contents}
+use Rattle.text.specs.declared.Text.{Text}
 use Rattle.lines.specs.Lines.{joined}
 use Rattle.forms.proofs.Widths.{formWidth, bounded, form-width}
 use Rattle.sheets.specs.Sheets.{linesIn, has}
@@ -19,6 +22,7 @@ use Rattle.format.specs.Writing.{behindIn, headLine, linesFor, messageOf
 use Rattle.format.proofs.Tests.{every, every-at, number-form}
 use Rattle.format.proofs.Laws.{everySlot, Filled, Held}
 use Rattle.format.proofs.Grows.{joined-next, grows}
+use Rattle.format.proofs.BySlot.{no-contents}
 
 module _ (F : Format) where
   -- ---- a value of a message is no wider than its form
@@ -94,3 +98,31 @@ module _ (F : Format) where
       go : (b : Bool) → has (everySlot F) s ≡ b → length (F .valueOf r s) ≤ cond b (most s) (length (F .valueOf r s))
       go true e = h s e
       go false e = omega arith
+
+  -- ---- by the widths of the forms, and by a list of slots whose values have fewer bytes
+
+  unfoldable pub capped : List (ℕ × ℕ) → ℕ → ℕ
+  capped [] s = formWidth (F .slotOf s .form)
+  capped (c ∷ cs) s = cond (eqb s (c .0)) (c .1) (capped cs s)
+
+  module _ (r : F .Held) where
+    abbrev pub Capped : List (ℕ × ℕ) → Type 0
+    Capped [] = Unit
+    Capped (c ∷ cs) = (length (F .valueOf r (c .0)) ≤ c .1) × Capped cs
+
+    module _ (h : Held F (F .valueOf r)) (b : every (λ s. bounded (F .slotOf s .form)) (everySlot F) ≡ true) where
+      capped-at : (cs : List (ℕ × ℕ)) → Capped cs → (s : ℕ) → has (everySlot F) s ≡ true → length (F .valueOf r s) ≤ capped cs s
+      unfolding capped
+      capped-at [] all s i = value-width (F .valueOf r) h b s i
+      capped-at (c ∷ cs) all s i = go (capped-at cs (all .1) s i) (eqb s (c .0)) refl
+        where
+          go : length (F .valueOf r s) ≤ capped cs s → (x : Bool) → eqb s (c .0) ≡ x → length (F .valueOf r s) ≤ cond x (c .1) (capped cs s)
+          go ih true e = rw (eqb-true s (c .0) e) (all .0)
+          go ih false e = ih
+
+      pub capped-most : (cs : List (ℕ × ℕ)) → Capped cs → length (messageOf F r) ≤ bytesOf (within r (capped cs))
+      capped-most cs all = message-most r (within r (capped cs)) (within-most r (capped cs) (capped-at cs all))
+
+-- a text that is not there has no bytes
+pub no-text : (x : Text) → ltb 0 (x .len) ≡ false → length (contents x) ≤ 0
+no-text x e = let n = ltb-false 0 (x .len) e in let z = ap length (no-contents x (omega arith)) in omega arith

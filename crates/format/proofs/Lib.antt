@@ -15,7 +15,6 @@ pub mod Demands
 pub mod Numbers
 pub mod Field
 pub mod Places
-pub mod Putting
 pub mod Outline
 pub mod Grows
 pub mod Lengths
@@ -25,7 +24,11 @@ pub mod Specimen
 pub mod Cases
 pub mod Lent
 pub mod BySlot
+pub mod Values
 pub mod FieldTests
+pub mod Finding
+pub mod Judging
 pub mod Chain
 pub mod Taken
 pub mod Moved
+pub mod Profiles

@@ -3,12 +3,12 @@
 -- Assumes nothing.
 use Prim.Native.Nat.{ℕ, _+_, _-_, _≤_, _<_}
 use mathlib.Core.Path.{_≡_, refl, sym, ap, _∙_}
-use mathlib.Core.Bool.{Bool, true, false, _&&_, _||_, cond}
+use mathlib.Core.Bool.{Bool, true, false, _&&_, _||_, not, cond}
 use mathlib.Core.List.{List, [], _∷_}
 use native.Mathlib.Omega.{arith}
 use lib.Dec.{leb, ltb, eqb}
 use lib.ListN.{length, take, drop, getD, set, length-set, length-take, length-drop, List·getD-eq-default}
-use borrow.Author.Tests.{leb-true, ltb-true, ltb-false}
+use borrow.Author.Tests.{leb-true, ltb-true, ltb-false, not-true}
 use Rattle.text.proofs.Laws.{and-left, and-right}
 use Rattle.stretches.specs.Stretches.{slotCount, between, stretchOf}
 use Rattle.amount.specs.Amounts.{shortestOf}
@@ -90,3 +90,31 @@ module _ (F : Format) (L : Layout F) (W : Laws F) (m : List ℕ) (z : Accepted F
   pub all-moved : (ks : List ℕ) → Amounts F ks → {starts ends : List ℕ} → Places ks starts ends → (s : ℕ) → stretchOf m starts ends s ≡ F .valueOf (heldIn F m) s
   all-moved ks A {starts} {ends} p =
       lent F L W m z ks A (stretchOf m starts ends) (p .short) (λ s h. behind-none m starts ends s (rw (p .starts-many) h) (rw (p .ends-many) h))
+
+-- ---- the amounts of a list of slots moved in, one after the other
+
+-- the places before and after
+pub data Moves (m : List ℕ) : List ℕ → List ℕ → List ℕ → List ℕ → List ℕ → Type 0 where
+  stay : {starts ends : List ℕ} → Moves m [] starts ends starts ends
+  move : {k : ℕ} {ks starts ends starts' ends' starts'' ends'' : List ℕ}
+      → (starts' ≡ set starts k (shortest-start m starts ends k)) × (ends' ≡ set ends k (shortest-end m starts ends k))
+      → Moves m ks starts' ends' starts'' ends'' → Moves m (k ∷ ks) starts ends starts'' ends''
+
+-- the slots that were moved, the last first, and that each has a place and is moved once
+unfoldable pub onto : List ℕ → List ℕ → List ℕ
+onto [] js = js
+onto (k ∷ ks) js = onto ks (k ∷ js)
+
+unfoldable pub movable : List ℕ → List ℕ → Bool
+movable [] js = true
+movable (k ∷ ks) js = (ltb k slotCount && not (has js k)) && movable ks (k ∷ js)
+
+module _ (F : Format) (L : Layout F) (W : Laws F) (m : List ℕ) (z : Accepted F m) where
+  pub some-moved : {ks js starts ends starts' ends' : List ℕ} → Moves m ks starts ends starts' ends' → movable ks js ≡ true
+      → Places F L W m z js starts ends → Places F L W m z (onto ks js) starts' ends'
+  unfolding onto movable
+  some-moved stay t p = p
+  some-moved {js = js} (move {k = k} e rest) t p =
+      let h = and-left (ltb k slotCount && not (has js k)) _ t in
+      some-moved rest (and-right (ltb k slotCount && not (has js k)) _ t)
+      (one-moved F L W m z p k (ltb-true k slotCount (and-left _ _ h)) (not-true _ (and-right (ltb k slotCount) _ h)) (e .0) (e .1))

@@ -18,9 +18,10 @@ use Rattle.amount.specs.declared.AmountRead.{AmountRead}
 use Rattle.calendar.specs.Dates.{dateRead, dateNumber, momentRead, momentNumber}
 use Rattle.calendar.specs.declared.DateRead.{DateRead}
 use Rattle.calendar.specs.declared.MomentRead.{MomentRead}
-use Rattle.forms.specs.Forms.{Form, nothing, codes, words, amount, date, moment, narrative, other, Slot, isWord, unless, formNumber, valueNumber}
+use Rattle.forms.specs.Forms.{Form, nothing, codes, words, amount, date, moment, narrative, poolNarrative, other, Slot, isWord, unless, formNumber, valueNumber}
 use Rattle.text.specs.Classes.{isCode}
 use Rattle.forms.specs.Narrative.{isNarrative}
+use Rattle.forms.specs.Pool.{hasDelivery, deliveryIn, isPoolShape, poolNumber}
 use Rattle.layout.specs.Layout.{Taken, Run, refusedAt, taken}
 use Rattle.sheets.proofs.Moves.{NumberedRun, numbered}
 use Rattle.text.proofs.Bools.{of-both}
@@ -138,6 +139,10 @@ unless-few : (b : Bool) → FewOf (unless b)
 unfolding unless
 unless-few b = either FewOf b (few _ _ refl) (few _ _ refl)
 
+pool-few : (v : List ℕ) → FewOf (poolNumber v)
+unfolding poolNumber
+pool-few v = either FewOf (isPoolShape v) (either FewOf (hasDelivery v) (date-few (dateRead (deliveryIn v))) (few _ _ refl)) (few _ _ refl)
+
 form-few : (form : Form) (v : List ℕ) → FewOf (formNumber form v)
 unfolding formNumber
 form-few nothing v = unless-few (eqb (length v) 0)
@@ -147,6 +152,7 @@ form-few amount v = amount-few (amountRead v)
 form-few date v = date-few (dateRead v)
 form-few moment v = moment-few (momentRead v)
 form-few narrative v = unless-few (isNarrative v)
+form-few poolNarrative v = pool-few v
 form-few other v = few _ _ refl
 
 number-few : (slot : Slot) (v : List ℕ) → FewOf (valueNumber slot v)

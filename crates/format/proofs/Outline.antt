@@ -1,10 +1,10 @@
 -- Where the fields of a message of any type stand, by the places that its reading keeps: those of an accepted message are its fields',
 -- and beside a refusal all are 0. And what stands between them.
 -- Assumes nothing.
-use Prim.Native.Nat.{ℕ, suc, _+_, _-_, _≤_, _<_}
+use Prim.Native.Nat.{ℕ, zero, suc, _+_, _-_, _≤_, _<_}
 use mathlib.Core.Path.{_≡_, refl, sym, ap, _∙_}
 use mathlib.Core.Bool.{Bool, true, false, cond}
-use mathlib.Core.List.{List, []}
+use mathlib.Core.List.{List, [], map}
 use mathlib.Core.Logic.{_⊎_, inl, inr}
 use native.Mathlib.Nat.{add-zero}
 use native.Mathlib.Omega.{arith}
@@ -38,7 +38,7 @@ use Rattle.format.specs.Reading.{verdictOf, reading, readOf}
 use Rattle.format.specs.Kept.{keptOf}
 use Rattle.format.specs.Lawful.{saidIn, Lawful}
 use Rattle.format.specs.Field.{nowhere, lineFor, frontOf, fieldOf, spanIn}
-use Rattle.format.specs.Outline.{passwordField, lineField, headSlot, lineStart, lineEnd, startIn, endIn, startsIn, endsIn, standing, Standing, begunAt, slotFor, startKept, endKept, startsKept, endsKept}
+use Rattle.format.specs.Outline.{numbers, passwordField, lineField, headSlot, lineStart, lineEnd, startIn, endIn, startsIn, endsIn, standing, Standing, begunAt, slotFor, startKept, endKept, startsKept, endsKept}
 use Rattle.format.proofs.Tests.{every, every-at}
 use Rattle.format.proofs.Laws.{everySlot, Layout, Laws}
 use Rattle.format.proofs.Said.{values-pass}
@@ -47,7 +47,6 @@ use Rattle.format.proofs.Accepting.{passes-from, body-taken, accepted-l
 use Rattle.format.proofs.Holds.{not-header, said-head}
 use Rattle.format.proofs.Field.{Fields, refused-none, unnamed-none, no-span, line-stood, lawful-line, field-some, held-none, finding}
 use Rattle.format.proofs.Places.{starts-none, ends-none, starts-one, ends-one, has-at, head-starts-none, head-ends-none, head-starts-one, head-ends-one}
-use Rattle.format.proofs.Putting.{same-answers}
 
 -- what is asked of a message type: every slot has its place, and of the header's two lines the whole text is the field
 pub record Outlined (F : Format) (k : ℕ) : Type 0 where
@@ -66,6 +65,16 @@ pub record Handed (F : Format) (k : ℕ) (m : List ℕ) (b : Body) : Type 0 wher
       → (startKept F k (b .starts) (b .ends) f ≡ startIn F k m f)
       × (endKept F k (b .ends) f ≡ endIn F k m f)
 
+-- rules that agree on each number give the same answers for all
+module _ (g h : ℕ → ℕ) where
+  alike : (n k : ℕ) → ((f : ℕ) → f < k + n → g f ≡ h f) → map g (numbers k n) ≡ map h (numbers k n)
+  unfolding numbers
+  alike zero k e = refl
+  alike (suc n) k e = rw (e k (omega arith), alike n (suc k) (λ f l. e f (omega arith)))
+
+  same-answers : (n : ℕ) → ((f : ℕ) → f < n → g f ≡ h f) → map g (numbers 0 n) ≡ map h (numbers 0 n)
+  same-answers n e = alike n 0 (λ f l. e f (omega arith))
+
 -- so all fields are where they should be
 module _ (F : Format) (k : ℕ) (m : List ℕ) (b : Body) (h : Handed F k m b) where
   pub starts-handed : startsKept F k (b .starts) (b .ends) ≡ startsIn F k m
@@ -83,7 +92,7 @@ module _ (F : Format) where
   unfolding begunAt
   begun-there f from to h = rw (lt-ltb from to h)
 
-  pub begun-whole : (f from to : ℕ) → F .beyond f ≡ 0 → begunAt F f from to ≡ from
+  begun-whole : (f from to : ℕ) → F .beyond f ≡ 0 → begunAt F f from to ≡ from
   unfolding begunAt
   begun-whole f from to e = rw (e, add-zero from) (go (ltb from to))
     where
@@ -170,17 +179,6 @@ module _ (F : Format) (k : ℕ) (L : Layout F) (T : Outlined F k) where
         go true b p q = head-low 0 (omega arith)
         go false true p q = head-low k (T .is-line)
         go false false p q = own-low f (own F f h p q)
-
-    pub slot-in : (f slot : ℕ) → slot ≡ slotFor F k f → f < F .fields + 3 → slot < slotCount
-    slot-in f slot is h = rw is (slot-below f h)
-
--- what is kept of a field's slot is kept of the field
-module _ (F : Format) (k f slot : ℕ) (is : slot ≡ slotFor F k f) where
-  pub start-of : (starts ends : List ℕ) (r : ℕ) → r ≡ begunAt F f (getD starts slot 0) (getD ends slot 0) → r ≡ startKept F k starts ends f
-  start-of starts ends r e = e ∙ rw is
-
-  pub end-of : (ends : List ℕ) → getD ends slot 0 ≡ endKept F k ends f
-  end-of ends = rw is
 
 -- ---- an accepted message
 

@@ -9,13 +9,13 @@ use native.Mathlib.Omega.{arith}
 use lib.Dec.{eqb, leb}
 use lib.ListN.{length}
 use lib.Seq.{drop-append-seam}
-use borrow.Author.Tests.{eqb-true, eqb-false, not-true}
+use borrow.Author.Tests.{eqb-true, eqb-false, ne-eqb, not-true}
 use Rattle.text.specs.Bytes.{begins, same, before}
 use Rattle.text.specs.Classes.{isC, inClass, allIn, isCode}
 use Rattle.text.specs.declared.Class.the-variants.{C}
 use Rattle.text.proofs.Laws.{and-left, and-right, and-both, same-eq, begins-append}
 use Rattle.amount.specs.Amounts.{whole, decimals, trimmed, shortened, tidy, isAmount, amountRead, amountNumber}
-use Rattle.forms.specs.Forms.{Form, nothing, codes, words, amount, date, moment, narrative, other, Slot, unless, formNumber, valueNumber}
+use Rattle.forms.specs.Forms.{Form, nothing, codes, words, amount, date, moment, narrative, poolNarrative, other, Slot, unless, formNumber, valueNumber}
 use Rattle.forms.proofs.Laws.{value-begins}
 use Rattle.sheets.specs.Trees.{Field, Member, Tree, last, line, block, group}
 use Rattle.sheets.specs.Sheets.{has}
@@ -69,6 +69,7 @@ isCodes amount = false
 isCodes date = false
 isCodes moment = false
 isCodes narrative = false
+isCodes poolNarrative = false
 isCodes other = false
 
 unfoldable pub noCode : List ℕ → Bool
@@ -109,6 +110,7 @@ codes-begin amount z v c n h = absurd (true≢false (sym c))
 codes-begin date z v c n h = absurd (true≢false (sym c))
 codes-begin moment z v c n h = absurd (true≢false (sym c))
 codes-begin narrative z v c n h = absurd (true≢false (sym c))
+codes-begin poolNarrative z v c n h = absurd (true≢false (sym c))
 codes-begin other z v c n h = absurd (true≢false (sym c))
 
 pub never-begins : (slot : Slot) (z l : List ℕ) → foreign slot z ≡ true → valueNumber slot l ≡ 0 → begins z l ≡ false
@@ -137,6 +139,7 @@ isAmountForm amount = true
 isAmountForm date = false
 isAmountForm moment = false
 isAmountForm narrative = false
+isAmountForm poolNarrative = false
 isAmountForm other = false
 
 -- what is no amount stays as it is
@@ -149,6 +152,7 @@ tidied-same amount v h = absurd (true≢false h)
 tidied-same date v h = refl
 tidied-same moment v h = refl
 tidied-same narrative v h = refl
+tidied-same poolNarrative v h = refl
 tidied-same other v h = refl
 
 -- a tidied text has its comma
@@ -173,6 +177,7 @@ tidied-some amount [] (b ∷ v) = sym (tidy-some (b ∷ v))
 tidied-some date [] v = refl
 tidied-some moment [] v = refl
 tidied-some narrative [] v = refl
+tidied-some poolNarrative [] v = refl
 tidied-some other [] v = refl
 
 -- what is absent stays so
@@ -185,6 +190,7 @@ tidied-none amount = refl
 tidied-none date = refl
 tidied-none moment = refl
 tidied-none narrative = refl
+tidied-none poolNarrative = refl
 tidied-none other = refl
 
 -- ---- the lines of a layout, tidied: each front is that of one amount, and no other line begins with it
@@ -251,6 +257,12 @@ unfolding amountRead isAmount whole before tidied some
 amount-some [] h = let z : ⊥ = omega arith in absurd z
 amount-some (b ∷ v) h = refl
 
+-- an amount that need not be there is tidied where it is
+pub amount-may : (v : List ℕ) → cond (eqb (length v) 0) [] (tidy v) ≡ tidied amount v
+unfolding tidied some
+amount-may [] = refl
+amount-may (b ∷ v) = rw (ne-eqb (length (b ∷ v)) 0 (λ h. let z : ⊥ = omega arith in z))
+
 -- a line of a slot whose value gets 0
 pub row-tidied : (fronts : List (List ℕ)) (slot : Slot) (k x : List ℕ) → tidyRow fronts slot k ≡ true → valueNumber slot (slot .fixed ++ x) ≡ 0
     → tidyLine fronts (k ++ (slot .fixed ++ x)) ≡ k ++ (slot .fixed ++ tidied (slot .form) x)
@@ -274,6 +286,7 @@ row-tidied fronts slot k x h e = on (slot .form) (and-right (untouched fronts k)
     on date q n = as-is q
     on moment q n = as-is q
     on narrative q n = as-is q
+    on poolNarrative q n = as-is q
     on other q n = as-is q
 
 pub row-bare : (fronts : List (List ℕ)) (slot : Slot) (k : List ℕ) → tidyRow fronts slot k ≡ true → tidyLine fronts (k ++ []) ≡ k ++ []

@@ -12,5 +12,7 @@ pub mod Demands
 pub mod Field
 pub mod Outline
 pub mod Batch
+pub mod Profiles
 pub mod Specimen
+pub mod Changes
 pub mod Cases

@@ -7,7 +7,7 @@ use lib.ListN.{length, drop}
 use Rattle.text.specs.Bytes.{begins}
 use Rattle.lines.specs.Lines.{linesOf, joined}
 use Rattle.amount.specs.Amounts.{tidy}
-use Rattle.forms.specs.Forms.{Form, nothing, codes, words, amount, date, moment, narrative, other}
+use Rattle.forms.specs.Forms.{Form, nothing, codes, words, amount, date, moment, narrative, poolNarrative, other}
 use Rattle.sheets.specs.Filled.{some}
 use Rattle.sheets.specs.Plain.{inOrder}
 use Rattle.format.specs.Format.{Format}
@@ -21,6 +21,7 @@ tidied amount v = cond (some v) (tidy v) []
 tidied date v = v
 tidied moment v = v
 tidied narrative v = v
+tidied poolNarrative v = v
 tidied other v = v
 
 -- in an amount that stands behind a text needless noughts go

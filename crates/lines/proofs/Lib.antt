@@ -4,3 +4,4 @@ pub mod Joins
 pub mod Scans
 pub mod Cases
 pub mod Standing
+pub mod Rules

@@ -2,3 +2,4 @@ pub mod Pieces
 pub mod Laws
 pub mod Lines
 pub mod Cutting
+pub mod Answers

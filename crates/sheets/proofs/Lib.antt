@@ -12,3 +12,4 @@ pub mod Musts
 pub mod Solid
 pub mod Ends
 pub mod Settled
+pub mod Loose

@@ -1,10 +1,13 @@
--- What callers cite: a value that gets 0 is held in form, and what is held is written as the value, an amount as the tidied one.
+-- What callers cite: a value that gets 0 is held in form, and what is held is written as the value, an amount as the tidied one; and
+-- code words by their places.
 -- Assumes nothing.
-use Prim.Native.Nat.{ℕ}
-use mathlib.Core.Path.{_≡_, refl}
+use Prim.Native.Nat.{ℕ, zero, suc, _<_}
+use mathlib.Core.Path.{_≡_, refl, sym}
 use mathlib.Core.Bool.{Bool, true, false, cond}
-use mathlib.Core.List.{List}
+use mathlib.Core.List.{List, _∷_}
+use native.Mathlib.Nat.{le-of-suc-le-suc, zero-lt-suc}
 use native.Mathlib.Omega.{arith}
+use lib.ListN.{length, getD, List·getD-eq-default}
 use Rattle.amount.specs.Amounts.{isAmount, tidy, amountRead, amountNumber, amountText, meaning, inForm as amountForm}
 use Rattle.amount.specs.declared.AmountRead.{AmountRead}
 use Rattle.amount.proofs.Laws.{value-in-form, written-tidy}
@@ -40,3 +43,9 @@ moment-held v e = go (momentRead v) refl e
     go : (r : MomentRead) → momentRead v ≡ r → momentNumber r ≡ 0 → (isMoment (momentOr0 r) ≡ true) × (momentText (momentOr0 r) ≡ v)
     go (MomentRead.Good m) t h = moment-back v m t
     go MomentRead.Wrong t h = let z : ⊥ = omega arith in absurd z
+
+-- ---- what is held of a word by its place: the first of a list answers for 0 and for every place behind the others
+
+pub first-else : {T : Type 0} (first : T) (others : List T) (place : ℕ) → (0 < place → length others < place) → first ≡ getD (first ∷ others) place first
+first-else first others zero h = refl
+first-else first others (suc n) h = sym (List·getD-eq-default others first (le-of-suc-le-suc (h (zero-lt-suc n))))

@@ -1,1 +1,4 @@
 pub mod Laws
+pub mod Widths
+pub mod SideWords
+pub mod PaymentTexts

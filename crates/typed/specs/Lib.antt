@@ -1,1 +1,3 @@
 pub mod Typed
+pub mod Sides
+pub mod Payments

@@ -1,8 +1,13 @@
-// The value of a slot as what a record holds: a text, a date, a moment or an amount, from where it stands in a message.
+// The value of a slot as what a record holds: a text, a date, a moment, an amount or a payment, from where it stands in a message;
+// and the side of a trade.
 //
-// Nothing here knows a message type. What is right stands in specs/Typed.
+// Nothing here knows a message type. What is right stands in specs/Typed, specs/Sides and specs/Payments.
+pub mod payments;
+pub mod sides;
+
 use amount::Amount;
 use amount::AmountRead;
+use amount::Money;
 use calendar::Date;
 use calendar::DateRead;
 use calendar::Moment;
@@ -15,6 +20,19 @@ ghost use Rattle.amount.specs.Amounts.{amountRead};
 ghost use Rattle.calendar.specs.Dates.{dateRead, momentRead};
 ghost use Rattle.stretches.specs.Stretches.{stretchOf};
 ghost use Rattle.typed.specs.Typed.{amountOr0, dateOr0, momentOr0};
+ghost use Rattle.typed.specs.Payments.{paymentIn};
+
+// Whether the sender buys or sells.
+pub enum Side {
+    Buyi,
+    Sell,
+}
+
+// A sum of money that need not be there; a sum of zero is there.
+pub enum Payment {
+    Absent,
+    Of(Money),
+}
 
 // A text.
 pub fn text_at<'a, 'b>(
@@ -74,4 +92,20 @@ pub fn amount_at<'a, 'b>(
         AmountRead::Good(amount) => amount,
         AmountRead::Wrong => Amount::ZERO,
     }
+}
+
+// A payment; absent where there is no value, and a sum of zero where the value is none.
+pub fn payment_at<'a, 'b>(
+    message: &'a [u8],
+    starts: &'b [usize],
+    ends: &'b [usize],
+    slot: usize,
+) -> Payment
+    ensures { λ r. ⌜ r ≡ paymentIn (stretchOf (now (message .entry)) (now (starts .entry)) (now (ends .entry)) slot) ⌝ }
+{
+    let value = stretches::stretch(message, starts, ends, slot);
+    if value.len() == 0 {
+        return Payment::Absent;
+    }
+    Payment::Of(Money::of(amount_at(message, starts, ends, slot)))
 }

@@ -1,20 +1,29 @@
--- What callers cite: the answers of a write of any message type, by what its program does: a record is judged, its message is composed
--- elsewhere, and put where it has room.
+-- What callers cite: the answers of a write of any message type, by what its program does: a record is judged, its values are put into a
+-- text, its message is composed elsewhere, and put where it has room.
 -- Assumes nothing.
-use Prim.Native.Nat.{ℕ, _+_, _≤_, _<_}
-use mathlib.Core.Path.{_≡_, sym, ap, _∙_}
+use Prim.Native.Nat.{ℕ, _+_, _-_, _≤_, _<_}
+use mathlib.Core.Path.{_≡_, refl, sym, ap, _∙_}
 use mathlib.Core.Bool.{true}
-use mathlib.Core.List.{List}
+use mathlib.Core.List.{List, [], _∷_, flatten}
 use native.Mathlib.Omega.{arith}
 use lib.Dec.{leb}
-use lib.ListN.{length}
+use lib.ListN.{length, take, drop, getD}
 use borrow.Author.Tests.{le-leb, ne-eqb, lt-ltb}
 use Rattle.text.specs.Copy.{fits, placed}
-use Rattle.text.proofs.Laws.{length-placed}
+use Rattle.text.proofs.Laws.{rest-of, length-placed}
+use Rattle.stretches.specs.Stretches.{stretchOf}
+use Rattle.fill.specs.Runs.{overRun}
+use Rattle.fill.specs.Places.{ends}
+use Rattle.fill.proofs.Places.{stretch-held}
 use Rattle.fill.proofs.Runs.{Put, measured}
 use Rattle.format.specs.Format.{Format}
 use Rattle.format.specs.Writing.{messageOf, judgeOf, writeNumber, writeLength, writtenOver}
 use Rattle.format.proofs.Demands.{room-takes}
+
+-- the values of a record, put into a text with their places, are lent as they are where all of them have room
+pub values-lent : (vs : List (List ℕ)) (buf text places : List ℕ) → text ≡ overRun buf 0 vs → places ≡ 0 ∷ ends buf 0 vs
+    → length (flatten vs) ≤ length buf → (s : ℕ) → stretchOf text places (take (length places - 1) (drop 1 places)) s ≡ getD vs s []
+values-lent vs buf text places e f h s = rw (rest-of 1 (length places) places refl, e, f) (stretch-held vs buf h s)
 
 -- what was composed lies within its buffer
 pub fits-in : (buf s : List ℕ) {r : ℕ} {now : List ℕ} → Put buf 0 s r now → length s ≤ length buf → r ≤ length now
