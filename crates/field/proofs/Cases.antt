@@ -20,7 +20,8 @@ use Rattle.table.specs.Tree.{general, pool, details, tree}
 use Rattle.values.specs.Mt515.{mt515}
 use Rattle.search.specs.Search.{noLine, takenFor, spanFrom}
 use Rattle.walk.specs.Walk.{takenIn}
-use Rattle.mt515.specs.Cases.{b, ended}
+use Rattle.format.specs.Changes.{ended}
+use Rattle.mt515.specs.Cases.{b}
 use Rattle.mt515.specs.Reading.{readOf}
 use Rattle.mt515.specs.declared.Reading.{Reading}
 use Rattle.mt515.proofs.Cases.{answered as read-b}

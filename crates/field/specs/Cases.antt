@@ -5,7 +5,8 @@ use Prim.Native.String.{String}
 use mathlib.Core.Path.{_≡_}
 use mathlib.Core.List.{List, [], _∷_, map}
 use Rattle.text.specs.Bytes.{bytes}
-use Rattle.mt515.specs.Cases.{b, ended}
+use Rattle.format.specs.Changes.{ended}
+use Rattle.mt515.specs.Cases.{b}
 use Rattle.field.specs.Field.{fieldOf, placeOf}
 
 unfoldable pub fields : List (ℕ × String)

@@ -15,9 +15,11 @@ use Rattle.sheets.specs.Slots.{fieldSlots, ownSlots, memberSlots, slotsOf, firs
 use Rattle.sheets.specs.Sheets.{has}
 use Rattle.table.specs.Table.{slots, slotOf}
 use Rattle.table.specs.Tree.{general, pool, details, tree}
-use Rattle.values.specs.Values.{kindWord, sideWord, serviceWord, periodText, reasonText, narrative, values, valueOf}
+use Rattle.reason.specs.Reason.{reasonText, reasonForm}
+use Rattle.typed.specs.Sides.{sideWord}
+use Rattle.values.specs.Values.{kindWord, serviceWord, periodText, narrative, values, valueOf}
 use Rattle.format.specs.Writable.{fitted, hold}
-use Rattle.values.specs.Writable.{prepForm, periodForm, reasonForm, tests, inForm}
+use Rattle.values.specs.Writable.{prepForm, periodForm, tests, inForm}
 use Rattle.values.specs.Cases.{b}
 use Rattle.format.specs.Writing.{judgeOf}
 use Rattle.judge.specs.Cases.{trade, cases, Answered}

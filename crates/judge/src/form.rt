@@ -1,6 +1,5 @@
 // Whether the fields of a record are in form, which is number 18, by the slots of a block at a time.
 use calendar::Moment;
-use text::Text;
 use trade::Party;
 use trade::Period;
 use trade::Trade;
@@ -9,7 +8,7 @@ ghost use mathlib.Core.List.{[], _∷_};
 ghost use lib.ListN.{take, drop};
 ghost use Rattle.text.specs.Texts.{inForm as textForm};
 ghost use Rattle.format.specs.Writable.{hold};
-ghost use Rattle.values.specs.Writable.{prepForm, periodForm, reasonForm, tests, inForm};
+ghost use Rattle.values.specs.Writable.{prepForm, periodForm, tests, inForm};
 
 // Absent is date 0 and time 0, and nothing else.
 fn prep_form(prep: Moment) -> bool
@@ -27,14 +26,6 @@ fn period_form(period: Period) -> bool
         Period::Absent => true,
         Period::Days(days) => days <= 9,
     }
-}
-
-fn reason_form(reason: Text) -> bool
-    ensures { λ r. ⌜ r ≡ reasonForm reason ⌝ }
-{
-    let absent = reason.in_form(0, 0);
-    let four = reason.in_form(4, 4);
-    absent | four
 }
 
 fn party_form(party: Party) -> bool
@@ -77,7 +68,7 @@ fn security_form(trade: Trade) -> bool
     let pool = trade.pool.in_form(0, 9);
     let days = trade.period;
     let period = period_form(days);
-    let reason = reason_form(trade.reason);
+    let reason = reason::in_form(trade.reason);
     par & (cusip & (pool & (period & reason)))
 }
 

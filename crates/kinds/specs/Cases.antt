@@ -9,7 +9,7 @@ use Rattle.text.specs.Texts.{textOf}
 use Rattle.lines.specs.Verdicts.{refused}
 use Rattle.trade.specs.Records.{blankTrade}
 use Rattle.trade.specs.declared.Kind.{Kind}
-use Rattle.trade.specs.declared.Side.{Side}
+use Rattle.typed.specs.declared.Side.{Side}
 use Rattle.trade.specs.declared.Period.{Period}
 use Rattle.trade.specs.declared.Trade.{Trade}
 use Rattle.kinds.specs.Kinds.{kindsPass}

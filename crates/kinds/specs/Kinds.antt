@@ -14,7 +14,7 @@ use Rattle.calendar.specs.Dates.{earlier}
 use Rattle.lines.specs.Verdicts.{then, when}
 use Rattle.lines.specs.declared.Verdict.{Verdict}
 use Rattle.trade.specs.declared.Kind.{Kind}
-use Rattle.trade.specs.declared.Side.{Side}
+use Rattle.typed.specs.declared.Side.{Side}
 use Rattle.trade.specs.declared.Period.{Period}
 use Rattle.trade.specs.declared.Party.{Party}
 use Rattle.trade.specs.declared.Trade.{Trade}

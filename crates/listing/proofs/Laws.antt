@@ -10,6 +10,7 @@ use Rattle.text.specs.Bytes.{bytes}
 use Rattle.text.specs.Texts.{contents, textOf}
 use Rattle.text.specs.Copy.{placed}
 use Rattle.text.specs.declared.Text.{Text}
+use Rattle.text.proofs.Codes.{contents-short}
 use Rattle.text.proofs.Laws.{placed-all, rest-of, contents-of}
 use Rattle.digits.specs.Numerals.{digits}
 use Rattle.digits.proofs.Laws.{length-digits}
@@ -17,7 +18,7 @@ use Rattle.amount.specs.Amounts.{trimmed, noughts}
 use Rattle.amount.proofs.Trims.{trimmed-drop, noughts-length}
 use Rattle.trade.specs.declared.Kind.{Kind}
 use Rattle.values.specs.Values.{kindWord}
-use Rattle.values.proofs.Widths.{contents-short, kind-four}
+use Rattle.values.proofs.Widths.{kind-four}
 use Rattle.mt515.specs.declared.Reading.{Reading}
 use Rattle.fill.proofs.Runs.{Put, Run, two, measured, in-front, length-run, whole}
 use Rattle.listing.specs.Rows.{spaced, decimal, shown, told, untold, fieldsOf, printedRow}

@@ -5,9 +5,11 @@ use Rattle.message.specs.Cases.{broadest, messages, writes, Answered}
 use Rattle.format.specs.Format.{optional}
 use Rattle.format.specs.Writing.{behindIn, headLine, linesFor, messageOf, judgeOf, writeNumber, writeLength}
 use Rattle.forms.specs.Forms.{unless, formNumber}
-use Rattle.values.specs.Values.{kindWord, sideWord, serviceWord, periodText, reasonText, narrative, values, valueOf}
+use Rattle.reason.specs.Reason.{reasonText, reasonForm}
+use Rattle.typed.specs.Sides.{sideWord}
+use Rattle.values.specs.Values.{kindWord, serviceWord, periodText, narrative, values, valueOf}
 use Rattle.format.specs.Writable.{fitted, hold}
-use Rattle.values.specs.Writable.{prepForm, periodForm, reasonForm, tests, inForm}
+use Rattle.values.specs.Writable.{prepForm, periodForm, tests, inForm}
 use Rattle.table.specs.Table.{slots, header, slotOf}
 use Rattle.table.specs.Tree.{general, pool, details, tree}
 use Rattle.sheets.specs.Slots.{fieldSlots, ownSlots, memberSlots, slotsOf, firstSlots, mustSlots}

@@ -2,15 +2,12 @@
 -- values as wide as the kind lets them be is computed; no record of the kind has more.
 -- Assumes nothing.
 use Prim.Native.Nat.{ℕ, _+_, _≤_}
-use mathlib.Core.Path.{_≡_, refl, sym, ap}
-use mathlib.Core.Bool.{Bool, true, false, _||_, cond, true≢false}
+use mathlib.Core.Path.{_≡_, refl, ap}
+use mathlib.Core.Bool.{true, false, true≢false}
 use mathlib.Core.List.{List, [], _∷_, _++_}
 use native.Mathlib.Omega.{arith}
-use lib.Dec.{eqb}
-use lib.ListN.{length, length-append, length-take}
-use borrow.Author.Tests.{eqb-true, ltb-false}
+use lib.ListN.{length, length-append}
 use Rattle.text.specs.Bytes.{bytes}
-use Rattle.text.specs.Texts.{contents}
 use Rattle.text.specs.declared.Text.{Text}
 use Rattle.text.proofs.Bools.{or-left, or-right}
 use Rattle.text.proofs.Laws.{and-right}
@@ -24,23 +21,23 @@ use Rattle.format.specs.Format.{optional}
 use Rattle.format.proofs.Laws.{everySlot}
 use Rattle.format.specs.Writing.{headLine, behindIn}
 use Rattle.format.proofs.Tests.{every}
-use Rattle.format.proofs.Lengths as Any
-use Rattle.format.proofs.Lengths.{value-width, wide, bytesOf, within, within-most}
+use Rattle.format.proofs.Lengths.{wide, bytesOf, within, capped, Capped, capped-most, no-text}
 use Rattle.trade.specs.declared.Kind.{Kind}
-use Rattle.trade.specs.declared.Side.{Side}
+use Rattle.typed.specs.declared.Side.{Side}
 use Rattle.trade.specs.declared.Service.{Service}
 use Rattle.trade.specs.declared.Period.{Period}
 use Rattle.trade.specs.declared.Trade.{Trade}
 use Rattle.kinds.specs.Kinds.{present, hasDays, other, own, contra, stray, tddkOnly, tddkNever, hasForbidden}
 use Rattle.kinds.proofs.Laws.{passes}
-use Rattle.fill.specs.Filling.{isAny}
 use Rattle.table.specs.Table.{slots, header, slotOf}
 use Rattle.table.specs.Tree.{general, pool, details, tree}
+use Rattle.reason.specs.Reason.{reasonText}
+use Rattle.reason.proofs.Laws.{reason-short, no-reason}
 use Rattle.values.specs.Mt515.{mt515}
-use Rattle.values.specs.Values.{serviceWord, periodText, reasonText, narrative, values, valueOf}
+use Rattle.values.specs.Values.{serviceWord, periodText, narrative, values, valueOf}
 use Rattle.values.specs.Writable.{periodForm, tests, inForm}
 use Rattle.format.proofs.BySlot.{_⨾_}
-use Rattle.values.proofs.Narratives.{period-short, reason-short}
+use Rattle.values.proofs.Narratives.{period-short}
 use Rattle.values.proofs.Widths.{service-long, narrative-is}
 use Rattle.values.proofs.Laws.{test, values-held}
 use Rattle.judge.specs.Judging.{judgeOf}
@@ -49,23 +46,14 @@ use Rattle.message.specs.Messages.{messageOf}
 
 -- ---- how wide the values of a record may be
 
--- the slots that a kind may not have: of MAST, PREV, LIST and the contra references
-unfoldable pub forbidden : Kind → Side → List ℕ
-forbidden Kind.Inst side = 5 ∷ 6 ∷ 13 ∷ 16 ∷ []
-forbidden Kind.Canc side = 5 ∷ 13 ∷ 16 ∷ []
-forbidden Kind.Mdfc side = 13 ∷ 16 ∷ []
-forbidden Kind.Tddk Side.Buyi = 4 ∷ 5 ∷ 6 ∷ 13 ∷ []
-forbidden Kind.Tddk Side.Sell = 4 ∷ 5 ∷ 6 ∷ 16 ∷ []
-
--- the narrative, with GUPP or with DKRS
-unfoldable pub told : Kind → ℕ
-told Kind.Inst = 15
-told Kind.Canc = 15
-told Kind.Mdfc = 15
-told Kind.Tddk = 18
-
-unfoldable pub widest : Kind → Side → ℕ → ℕ
-widest kind side slot = cond (isAny (forbidden kind side) slot) 0 (cond (eqb slot 21) (told kind) (formWidth (slotOf slot .form)))
+-- less than their forms take: none of MAST, PREV, LIST and the contra references where a kind may not have them, and the narrative, which
+-- is with GUPP or with DKRS
+unfoldable pub caps : Kind → Side → List (ℕ × ℕ)
+caps Kind.Inst side = (5, 0) ∷ (6, 0) ∷ (13, 0) ∷ (16, 0) ∷ (21, 15) ∷ []
+caps Kind.Canc side = (5, 0) ∷ (13, 0) ∷ (16, 0) ∷ (21, 15) ∷ []
+caps Kind.Mdfc side = (13, 0) ∷ (16, 0) ∷ (21, 15) ∷ []
+caps Kind.Tddk Side.Buyi = (4, 0) ∷ (5, 0) ∷ (6, 0) ∷ (13, 0) ∷ (21, 18) ∷ []
+caps Kind.Tddk Side.Sell = (4, 0) ∷ (5, 0) ∷ (6, 0) ∷ (16, 0) ∷ (21, 18) ∷ []
 
 unfoldable pub longest : Kind → ℕ
 longest Kind.Inst = 718
@@ -74,8 +62,8 @@ longest Kind.Mdfc = 822
 longest Kind.Tddk = 699
 
 -- the bytes of a message whose values are so wide
-pub widest-is : (t : Trade) (kind : Kind) (side : Side) → bytesOf mt515 (within mt515 t (widest kind side)) ≡ longest kind
-unfolding longest widest told forbidden formWidth Widths.longest within wide everySlot optional slotsOf memberSlots ownSlots fieldSlots mustSlots firstSlots has header tree general pool details filled filledMembers filledFields anyIn anyMember anyField some linesIn lineOf joined headLine behindIn slotOf slots bytes
+pub widest-is : (t : Trade) (kind : Kind) (side : Side) → bytesOf mt515 (within mt515 t (capped mt515 (caps kind side))) ≡ longest kind
+unfolding longest caps capped formWidth Widths.longest within wide everySlot optional slotsOf memberSlots ownSlots fieldSlots mustSlots firstSlots has header tree general pool details filled filledMembers filledFields anyIn anyMember anyField some linesIn lineOf joined headLine behindIn slotOf slots bytes
 widest-is t Kind.Inst side = refl
 widest-is t Kind.Canc side = refl
 widest-is t Kind.Mdfc side = refl
@@ -84,18 +72,13 @@ widest-is t Kind.Tddk Side.Sell = refl
 
 -- ---- what is not there has no bytes
 
-no-text : (x : Text) → present x ≡ false → length (contents x) ≤ 0
-unfolding contents
-no-text x e = let n = ltb-false 0 (x .len) e in let l = length-take (x .len) (x .bytes) in omega arith
-
 no-period : (period : Period) → hasDays period ≡ false → length (periodText period) ≤ 0
 unfolding periodText
 no-period Period.Absent e = omega arith
 no-period (Period.Days n) e = absurd (true≢false e)
 
-no-reason : (reason : Text) → present reason ≡ false → length (reasonText reason) ≤ 0
-unfolding reasonText
-no-reason reason e = rw e (omega arith)
+no-dkrs : (reason : Text) → present reason ≡ false → length (reasonText reason) ≤ 0
+no-dkrs reason e = rw (no-reason reason e) (omega arith)
 
 -- the narrative, by what it has of GUPP and DKRS
 told-most : (service : Service) (period : Period) (reason : Text) (p r : ℕ) → length (periodText period) ≤ p → length (reasonText reason) ≤ r
@@ -117,27 +100,19 @@ module _ (t : Trade) (good : judgeOf t ≡ 0) where
   allowed : hasForbidden (t .kind) t ≡ false
   allowed = passes t (judge-zero t good .1) .1
 
-  -- none of some slots has a value
-  abbrev None : List ℕ → Type 0
-  None [] = Unit
-  None (n ∷ ns) = (length (valueOf t n) ≤ 0) × None ns
-
-  abbrev Told : ℕ → Type 0
-  Told n = length (valueOf t 21) ≤ n
-
   -- what the others may not have, and what a TDDK may not
-  no-tddk : tddkOnly t ≡ false → None (13 ∷ 16 ∷ []) × Told 15
+  no-tddk : tddkOnly t ≡ false → Capped mt515 t ((13, 0) ∷ (16, 0) ∷ (21, 15) ∷ [])
   unfolding tddkOnly contra stray other own valueOf values
   no-tddk e =
       let k = or-right (contra t) _ e in
       let r = or-right (stray t) _ k in
-      (go (t .side) (or-left _ _ e) (or-left _ _ k), told-most (t .service) (t .period) (t .reason) 6 0 (period-short (t .period)) (no-reason (t .reason) r))
+      go (t .side) (or-left _ _ e) (or-left _ _ k) (told-most (t .service) (t .period) (t .reason) 6 0 (period-short (t .period)) (no-dkrs (t .reason) r))
     where
-      go : (side : Side) → present (other t side .reference) ≡ false → present (own t side .reference) ≡ false → None (13 ∷ 16 ∷ [])
-      go Side.Buyi a b = no-text (t .buyer .reference) b ⨾ no-text (t .seller .reference) a ⨾ tt
-      go Side.Sell a b = no-text (t .buyer .reference) a ⨾ no-text (t .seller .reference) b ⨾ tt
+      go : (side : Side) → present (other t side .reference) ≡ false → present (own t side .reference) ≡ false → length (valueOf t 21) ≤ 15 → Capped mt515 t ((13, 0) ∷ (16, 0) ∷ (21, 15) ∷ [])
+      go Side.Buyi a b n = no-text (t .buyer .reference) b ⨾ no-text (t .seller .reference) a ⨾ n ⨾ tt
+      go Side.Sell a b n = no-text (t .buyer .reference) a ⨾ no-text (t .seller .reference) b ⨾ n ⨾ tt
 
-  no-others : tddkNever t ≡ false → (length (valueOf t 4) ≤ 0) × (length (valueOf t 5) ≤ 0) × (length (valueOf t 6) ≤ 0) × (stray t ≡ false) × Told 18
+  no-others : tddkNever t ≡ false → (length (valueOf t 4) ≤ 0) × (length (valueOf t 5) ≤ 0) × (length (valueOf t 6) ≤ 0) × (stray t ≡ false) × (length (valueOf t 21) ≤ 18)
   unfolding tddkNever valueOf values tests
   no-others e =
       let k = or-right (present (t .mast)) _ e in
@@ -151,46 +126,23 @@ module _ (t : Trade) (good : judgeOf t ≡ 0) where
         told-most (t .service) (t .period) (t .reason) 0 9 (no-period (t .period) (or-right (stray t) _ m)) r,
       )
 
-  none-of : (kind : Kind) (side : Side) → t .side ≡ side → hasForbidden kind t ≡ false → None (forbidden kind side) × Told (told kind)
-  unfolding hasForbidden forbidden told stray own valueOf values
-  none-of Kind.Inst side s e =
+  caps-kept : (kind : Kind) (side : Side) → t .side ≡ side → hasForbidden kind t ≡ false → Capped mt515 t (caps kind side)
+  unfolding hasForbidden caps stray own valueOf values
+  caps-kept Kind.Inst side s e =
       let k = or-right (present (t .prev)) _ e in
-      let n = no-tddk (or-right (present (t .list)) _ k) in
-      (no-text (t .prev) (or-left _ _ e) ⨾ no-text (t .list) (or-left _ _ k) ⨾ n .0, n .1)
-  none-of Kind.Canc side s e = let n = no-tddk (or-right (present (t .prev)) _ e) in (no-text (t .prev) (or-left _ _ e) ⨾ n .0, n .1)
-  none-of Kind.Mdfc side s e = no-tddk e
-  none-of Kind.Tddk Side.Buyi s e = let n = no-others e in (n .0 ⨾ n .1 ⨾ n .2 ⨾ no-text (t .buyer .reference) (rw s at (n .3)) ⨾ tt, n .4)
-  none-of Kind.Tddk Side.Sell s e = let n = no-others e in (n .0 ⨾ n .1 ⨾ n .2 ⨾ no-text (t .seller .reference) (rw s at (n .3)) ⨾ tt, n .4)
-
-  none-at : (ns : List ℕ) → None ns → (slot : ℕ) → isAny ns slot ≡ true → length (valueOf t slot) ≤ 0
-  none-at [] all slot e = absurd (true≢false (sym e))
-  none-at (n ∷ ns) all slot e = go (λ k. none-at ns (all .1) slot k) (eqb slot n) refl e
-    where
-      go : (isAny ns slot ≡ true → length (valueOf t slot) ≤ 0) → (b : Bool) → eqb slot n ≡ b → (b || isAny ns slot) ≡ true → length (valueOf t slot) ≤ 0
-      go ih true h k = rw (eqb-true slot n h) (all .0)
-      go ih false h k = ih k
+      no-text (t .prev) (or-left _ _ e) ⨾ no-text (t .list) (or-left _ _ k) ⨾ no-tddk (or-right (present (t .list)) _ k)
+  caps-kept Kind.Canc side s e = no-text (t .prev) (or-left _ _ e) ⨾ no-tddk (or-right (present (t .prev)) _ e)
+  caps-kept Kind.Mdfc side s e = no-tddk e
+  caps-kept Kind.Tddk Side.Buyi s e = let n = no-others e in n .0 ⨾ n .1 ⨾ n .2 ⨾ no-text (t .buyer .reference) (rw s at (n .3)) ⨾ n .4 ⨾ tt
+  caps-kept Kind.Tddk Side.Sell s e = let n = no-others e in n .0 ⨾ n .1 ⨾ n .2 ⨾ no-text (t .seller .reference) (rw s at (n .3)) ⨾ n .4 ⨾ tt
 
   are-bounded : every (λ s. bounded (slotOf s .form)) (everySlot mt515) ≡ true
   unfolding every bounded everySlot slotsOf memberSlots ownSlots fieldSlots header tree general pool details slotOf slots
   are-bounded = refl
 
-  value-most : (slot : ℕ) → has (everySlot mt515) slot ≡ true → length (valueOf t slot) ≤ widest (t .kind) (t .side) slot
-  unfolding widest
-  value-most slot i = go (isAny (forbidden (t .kind) (t .side)) slot) refl (eqb slot 21) refl
-    where
-      all : None (forbidden (t .kind) (t .side)) × Told (told (t .kind))
-      all = none-of (t .kind) (t .side) refl allowed
-
-      go : (a : Bool) → isAny (forbidden (t .kind) (t .side)) slot ≡ a → (b : Bool) → eqb slot 21 ≡ b
-          → length (valueOf t slot) ≤ cond a 0 (cond b (told (t .kind)) (formWidth (slotOf slot .form)))
-      go true e b f = none-at (forbidden (t .kind) (t .side)) (all .0) slot e
-      go false e true f = rw (eqb-true slot 21 f) (all .1)
-      go false e false f = value-width mt515 (valueOf t) (values-held t form) are-bounded slot i
-
   pub most-of-kind : length (messageOf t) ≤ longest (t .kind)
   most-of-kind =
-      let most = widest (t .kind) (t .side) in
-      let h = Any.message-most mt515 t (within mt515 t most) (within-most mt515 t most value-most) in
+      let h = capped-most mt515 t (values-held t form) are-bounded (caps (t .kind) (t .side)) (caps-kept (t .kind) (t .side) refl allowed) in
       let e = widest-is t (t .kind) (t .side) in
       omega arith
 

@@ -1,11 +1,10 @@
 -- What is lent for the writing of a record is the MT515's, and a write answers as one of any message type does.
 -- Assumes nothing.
-use Prim.Native.Nat.{ℕ, _-_, _≤_}
-use mathlib.Core.Path.{_≡_, refl}
+use Prim.Native.Nat.{ℕ}
+use mathlib.Core.Path.{_≡_}
 use mathlib.Core.Bool.{true}
-use mathlib.Core.List.{List, _∷_, _++_, flatten}
-use lib.ListN.{length, take, drop}
-use Rattle.text.proofs.Laws.{rest-of}
+use mathlib.Core.List.{List, _++_}
+use lib.ListN.{length}
 use Rattle.stretches.specs.Stretches.{stretchOf}
 use Rattle.forms.proofs.Tables.{places as slotsIn}
 use Rattle.layout.specs.Rows.{rowsOf}
@@ -13,7 +12,6 @@ use Rattle.sheets.specs.Trees.{tableOf}
 use Rattle.sheets.specs.Slots.{slotsOf}
 use Rattle.format.proofs.Tests.{every}
 use Rattle.format.proofs.Demands as Demands
-use Rattle.fill.specs.Runs.{overRun}
 use Rattle.fill.specs.Filling.{lent}
 use Rattle.writer.specs.Parts.{messageParts, partsFor}
 use Rattle.writer.proofs.Messages.{optionalIn, optional-are, parts-are}
@@ -24,19 +22,10 @@ use Rattle.table.specs.Table.{header, lines}
 use Rattle.table.specs.Tree.{tree}
 use Rattle.table.proofs.Tables.{slots-are}
 use Rattle.values.specs.Mt515.{mt515}
-use Rattle.values.specs.Values.{values, valueOf}
-use Rattle.fill.specs.Places.{ends}
-use Rattle.fill.proofs.Places.{stretch-held}
 use Rattle.judge.specs.Judging.{judgeOf}
 use Rattle.message.specs.Writing.{writingOf, writtenOver, writable}
 
 -- ---- what is lent
-
--- the values are held where all of them have room
-pub values-lent : (t : Trade) (buf text places : List ℕ) → text ≡ overRun buf 0 (values t) → places ≡ 0 ∷ ends buf 0 (values t)
-    → length (flatten (values t)) ≤ length buf → (s : ℕ) → stretchOf text places (take (length places - 1) (drop 1 places)) s ≡ valueOf t s
-unfolding valueOf
-values-lent t buf text places e f h s = rw (rest-of 1 (length places) places refl, e, f) (stretch-held (values t) buf h s)
 
 -- bytes that are the table, its slots and the optional ones
 pub parts-lent : (rows fixed may text from to : List ℕ) → rowsOf rows ≡ tableOf tree → slotsIn fixed 0 42 ≡ lines → length fixed ≡ 840

@@ -11,7 +11,8 @@ use Rattle.reader.specs.Header.{headVerdict, headPass, headValue}
 use Rattle.sheets.specs.Trees.{chain}
 use Rattle.sheets.specs.Sheets.{has, lacking}
 use Rattle.sheets.specs.Taking.{fit, next, seek, laterField, tell, moveOf, following, walk, takenBy}
-use Rattle.mt515.specs.Cases.{b, ended, without, with, behind, exchanged, cases, Unlike, AllUnlike, Answered}
+use Rattle.format.specs.Changes.{ended, without, with, behind, exchanged}
+use Rattle.mt515.specs.Cases.{b, cases, Unlike, AllUnlike, Answered}
 use Rattle.values.specs.Cases.{b as tradeOfB}
 use Rattle.mt515.specs.Reading.{readOf}
 use Rattle.table.specs.Table.{slots, header, slotOf}
@@ -22,9 +23,11 @@ use Rattle.lines.specs.Verdicts.{refused, pass, then, when}
 use Rattle.blocks.specs.Blocks.{isTagged, nameOf, named, roleOf, ending, opening, closing, turn, follow, nest, nestPass}
 use Rattle.layout.specs.Layout.{withTaken}
 use Rattle.forms.specs.Forms.{wordAt, isWord, unless, formNumber, valueNumber}
-use Rattle.forms.specs.Narrative.{serviceIn, hasPeriod, periodIn, behindPeriod, hasReason, reasonIn, goodPeriod, goodReason, isNarrative}
+use Rattle.reason.specs.Reason.{hasReason, reasonIn, goodReason}
+use Rattle.forms.specs.Narrative.{serviceIn, hasPeriod, periodIn, behindPeriod, goodPeriod, isNarrative}
 use Rattle.trade.specs.Narrative.{serviceOf, periodOf}
-use Rattle.trade.specs.Records.{kindIn, sideIn, partyOf, tradeOf, nobody, never, blankTrade}
+use Rattle.typed.specs.Sides.{sideIn}
+use Rattle.trade.specs.Records.{kindIn, partyOf, tradeOf, nobody, never, blankTrade}
 use Rattle.trade.specs.declared.Trade.{Trade}
 use Rattle.kinds.specs.Kinds.{other, own, contra, stray, functionOf, lacksField, tddkOnly, tddkNever, hasForbidden, recordPass, kindsPass}
 use Rattle.calendar.specs.Dates.{year, month, day, leap, lengths, monthLength, isDate, isTime, earlier, isMoment, dateFrom, dateRead, momentOf, momentFrom, momentRead, dateText, momentText}

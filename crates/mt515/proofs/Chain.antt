@@ -9,7 +9,7 @@ use Rattle.sheets.specs.Slots.{fieldSlots, ownSlots, memberSlots, slotsOf}
 use Rattle.format.specs.Reading as Any
 use Rattle.format.proofs.Laws.{everySlot}
 use Rattle.format.proofs.Tests.{every}
-use Rattle.format.proofs.Chain.{Readable, rules-refused, rules-accepted}
+use Rattle.format.proofs.Chain.{Readable, told-refused, told-accepted}
 use Rattle.format.proofs.Taken.{Front}
 use Rattle.trade.specs.Records.{tradeOf, blankTrade}
 use Rattle.trade.specs.declared.Trade.{Trade}
@@ -30,17 +30,13 @@ readable = record { layout = layout; placed = refl; clean = slots-clean; rests =
 -- ---- the kinds
 
 module _ (value : ℕ → List ℕ) (v : Verdict) (f : List ℕ) (t : Trade) (is : t ≡ tradeOf value) (of : f ≡ value 2) (e : v ≡ kindsPass f t) where
-  rules-are : v ≡ Any.rulesOf mt515 value
-  unfolding Any.rulesOf
-  rules-are = e ∙ rw (of, is)
-
   pub kinds-refused : (v .number ≡ 0 → ⊥) → record { number = v .number; line = v .line; trade = blankTrade } ≡ judged value
   unfolding judged
-  kinds-refused h = ap told (rules-refused mt515 value v rules-are h)
+  kinds-refused = told-refused mt515 told value t is v (e ∙ rw of)
 
   pub kinds-accepted : v .number ≡ 0 → record { number = v .number; line = v .line; trade = t } ≡ judged value
   unfolding judged
-  kinds-accepted h = ap told (rules-accepted mt515 value v rules-are t is h)
+  kinds-accepted = told-accepted mt515 told value t is v (e ∙ rw of)
 
 -- ---- the answers
 

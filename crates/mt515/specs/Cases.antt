@@ -1,12 +1,13 @@
 -- Document 01, "B and its neighbours": B, the neighbours that are marked to be proved, and those beside them, in one table.
-use Prim.Native.Nat.{ℕ, suc, _-_}
+use Prim.Native.Nat.{ℕ}
 use Prim.Native.String.{String}
 use mathlib.Core.Path.{_≡_}
-use mathlib.Core.List.{List, [], _∷_, _++_, map}
-use lib.ListN.{take, drop, getD, replicate}
+use mathlib.Core.List.{List, [], _∷_, map}
+use lib.ListN.{take, drop, replicate}
 use Rattle.text.specs.Bytes.{bytes}
 use Rattle.text.specs.Texts.{textOf}
 use Rattle.lines.specs.Verdicts.{refused}
+use Rattle.format.specs.Changes.{ended, without, with, behind, exchanged}
 use Rattle.trade.specs.declared.Trade.{Trade}
 use Rattle.values.specs.Cases.{b as tradeOfB}
 use Rattle.mt515.specs.Reading.{verdictOf, readOf}
@@ -41,24 +42,6 @@ b =
     ∷ ":16S:CONFDET"
     ∷ "-"
     ∷ []
-
--- lines with one ending
-unfoldable pub ended : String → List String → List ℕ
-ended ending [] = []
-ended ending (l ∷ ls) = bytes l ++ (bytes ending ++ ended ending ls)
-
--- a message without its line n, with another line n, with more lines behind line n, with lines n and n + 1 exchanged
-unfoldable pub without : ℕ → List String → List String
-without n ls = take (n - 1) ls ++ drop n ls
-
-unfoldable pub with : ℕ → String → List String → List String
-with n l ls = take (n - 1) ls ++ l ∷ drop n ls
-
-unfoldable pub behind : ℕ → List String → List String → List String
-behind n more ls = take n ls ++ (more ++ drop n ls)
-
-unfoldable pub exchanged : ℕ → List String → List String
-exchanged n ls = take (n - 1) ls ++ getD ls n "" ∷ getD ls (n - 1) "" ∷ drop (suc n) ls
 
 -- a message, and the number and line that it gets
 unfoldable pub cases : List (List String × ℕ × ℕ)

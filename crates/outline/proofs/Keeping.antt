@@ -1,18 +1,20 @@
 -- Where the fields of an MT515 stand, by the places that its reading keeps: what format's proofs/Outline says of any message type.
 -- Assumes nothing.
-use Prim.Native.Nat.{ℕ, _<_}
-use mathlib.Core.Path.{_≡_, refl}
-use mathlib.Core.List.{List}
+use Prim.Native.Nat.{ℕ}
+use mathlib.Core.Path.{_≡_, refl, _∙_}
+use mathlib.Core.List.{List, [], _∷_}
 use native.Mathlib.Omega.{arith}
+use lib.ListN.{replicate}
 use Rattle.text.specs.Bytes.{bytes}
-use Rattle.stretches.specs.Stretches.{slotCount}
+use Rattle.stretches.specs.Fields.{begunFor, startsFor, endsFor, startsHanded, endsHanded}
 use Rattle.sheets.specs.Slots.{fieldSlots, ownSlots, memberSlots, slotsOf}
 use Rattle.sheets.proofs.Checks.{goodSlot}
 use Rattle.walk.specs.declared.Body.{Body}
-use Rattle.format.specs.Outline.{slotFor, startsKept, endsKept}
+use Rattle.format.specs.Outline.{numbers, begunAt, slotFor, startsKept, endsKept}
 use Rattle.format.proofs.Tests.{every}
 use Rattle.format.proofs.Laws.{everySlot}
 use Rattle.format.proofs.Outline as Any
+use Rattle.trade.specs.Records.{narrativeSlot}
 use Rattle.table.specs.Table.{header, slots, slotOf}
 use Rattle.table.specs.Tree.{general, pool, details, tree}
 use Rattle.values.specs.Mt515.{mt515}
@@ -27,14 +29,32 @@ pub outlined : Any.Outlined mt515 senderLine
 unfolding bytes goodSlot every everySlot fieldSlots ownSlots memberSlots slotsOf header slots slotOf general pool details tree
 outlined = record { placed = refl; is-line = omega arith; password-bare = refl; line-bare = refl; password-whole = refl; line-whole = refl }
 
--- a field's slot has its place
-pub slot-in : (f slot : ℕ) → slot ≡ slotFor mt515 senderLine f → f < 24 → slot < slotCount
-slot-in = Any.slot-in mt515 senderLine layout outlined fields
+-- ---- the slots that are lent are those of the fields, by computation
+
+abbrev pub lent : List ℕ
+lent = 0 ∷ 1 ∷ 2 ∷ 3 ∷ 4 ∷ 5 ∷ 6 ∷ 7 ∷ 8 ∷ 9 ∷ 10 ∷ 11 ∷ 12 ∷ 13 ∷ 14 ∷ 15 ∷ 16 ∷ 17 ∷ 18 ∷ 19 ∷ 20 ∷ 21 ∷ 28 ∷ 29 ∷ []
+
+abbrev blank : List ℕ
+blank = replicate {A = ℕ} 24 0
+
+starts-are : (begun ended : List ℕ) → startsHanded narrativeSlot begun ended lent blank ≡ startsKept mt515 senderLine begun ended
+unfolding startsHanded startsFor begunFor startsKept numbers slotFor begunAt header
+starts-are begun ended = refl
+
+ends-are : (ended : List ℕ) → endsHanded ended lent blank ≡ endsKept mt515 senderLine ended
+unfolding endsHanded endsFor endsKept numbers slotFor header
+ends-are ended = refl
 
 -- what is handed out is right
-module _ (m : List ℕ) (b : Body) (is : b ≡ keptOf m) where
-  pub handed : record { number = b .verdict .number; line = b .verdict .line; starts = startsKept mt515 senderLine (b .starts) (b .ends); ends = endsKept mt515 senderLine (b .ends) } ≡ outlineOf m
+module _ (m : List ℕ) (b : Body) (is : b ≡ keptOf m) (starts ends : List ℕ) where
+  pub handed : starts ≡ startsHanded narrativeSlot (b .starts) (b .ends) lent blank → ends ≡ endsHanded (b .ends) lent blank
+      → record { number = b .verdict .number; line = b .verdict .line; starts = starts; ends = ends } ≡ outlineOf m
   unfolding outlineOf readOf
-  handed =
+  handed s e =
       let h = Any.handed mt515 senderLine layout laws fields outlined m b is in
-      rw (h .number, h .line, Any.starts-handed mt515 senderLine m b h, Any.ends-handed mt515 senderLine m b h)
+      rw (
+        h .number,
+        h .line,
+        s ∙ starts-are (b .starts) (b .ends) ∙ Any.starts-handed mt515 senderLine m b h,
+        e ∙ ends-are (b .ends) ∙ Any.ends-handed mt515 senderLine m b h,
+      )

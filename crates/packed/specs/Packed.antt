@@ -11,7 +11,7 @@ use lib.Dec.{leb}
 use Rattle.text.specs.declared.Text.{Text}
 use Rattle.calendar.specs.declared.Moment.{Moment}
 use Rattle.trade.specs.declared.Kind.{Kind}
-use Rattle.trade.specs.declared.Side.{Side}
+use Rattle.typed.specs.declared.Side.{Side}
 use Rattle.trade.specs.declared.Service.{Service}
 use Rattle.trade.specs.declared.Period.{Period}
 use Rattle.trade.specs.declared.Trade.{Trade}

@@ -2,8 +2,8 @@
 use trade::Kind;
 use trade::Period;
 use trade::Service;
-use trade::Side;
 use trade::Trade;
+use typed::Side;
 ghost use mathlib.Core.Path.{_≡_};
 ghost use Rattle.packed.specs.Packed.{atMost, kindByte, sideByte, serviceByte, periodByte, codes};
 

@@ -1,14 +1,11 @@
 // The plain form of a message, asked for into a buffer that the caller lends.
 //
 // What is right stands in specs/Asking.
-use amount::Trim;
 use walk::Body;
 ghost use mathlib.Core.Path.{_≡_};
-ghost use Prim.Native.Nat.{_+_, _≤_, _<_};
-ghost use lib.ListN.{length, getD, set};
+ghost use Prim.Native.Nat.{_≤_};
+ghost use lib.ListN.{length};
 ghost use Rattle.text.specs.Copy.{placed, after};
-ghost use Rattle.amount.specs.Amounts.{shortestOf};
-ghost use Rattle.stretches.specs.Stretches.{between, stretchOf};
 ghost use Rattle.message.specs.Plain.{plainOf};
 ghost use Rattle.mt515.specs.Reading.{verdictOf, keptOf};
 ghost use Rattle.plain.specs.Asking.{askingOf, askedOver};
@@ -20,27 +17,6 @@ pub struct Asking {
     pub length: usize,
 }
 
-// From where to where the shortest text of an amount stands in a message, by the places of the amount.
-fn within(message: &[u8], start: usize, end: usize) -> Trim
-    ensures { λ r. ⌜ r ≡ record { from = start + shortestOf (between (now (message .entry)) start end) .from; to = start + shortestOf (between (now (message .entry)) start end) .to } ⌝ }
-{
-    let part = amount::shortest(stretches::part(message, start, end));
-    Trim {
-        from: start + part.from,
-        to: start + part.to,
-    }
-}
-
-// Moves the places of a slot in to the shortest text of the amount that stands there.
-fn move_in(message: &[u8], starts: &mut [usize], ends: &mut [usize], slot: usize)
-    requires { ⌜ (slot < length (now starts)) × (slot < length (now ends)) ⌝ }
-    ensures { λ _. ⌜ (now (starts .exit) ≡ set (now (starts .entry)) slot (getD (now (starts .entry)) slot 0 + shortestOf (stretchOf (now (message .entry)) (now (starts .entry)) (now (ends .entry)) slot) .from)) × (now (ends .exit) ≡ set (now (ends .entry)) slot (getD (now (starts .entry)) slot 0 + shortestOf (stretchOf (now (message .entry)) (now (starts .entry)) (now (ends .entry)) slot) .to)) ⌝ }
-{
-    let part = within(message, starts[slot], ends[slot]);
-    stretches::keep(starts, slot, part.from);
-    stretches::keep(ends, slot, part.to);
-}
-
 // The plain form of an accepted message, into a buffer that has room for it. It is put from the message's own stretches, of which the
 // price's and the par's are moved in, with the bytes of the header, the table and the slots.
 fn compose(buf: &mut [u8], message: &[u8], body: Body) -> usize
@@ -49,8 +25,8 @@ fn compose(buf: &mut [u8], message: &[u8], body: Body) -> usize
 {
     let mut starts = body.starts;
     let mut ends = body.ends;
-    move_in(message, &mut starts, &mut ends, 9);
-    move_in(message, &mut starts, &mut ends, 18);
+    writer::amounts::move_in(message, &mut starts, &mut ends, 9);
+    writer::amounts::move_in(message, &mut starts, &mut ends, 18);
     message::put(buf, message, &starts, &ends)
 }
 

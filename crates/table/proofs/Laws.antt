@@ -1,46 +1,18 @@
--- What callers rest on.
+-- What callers rest on, of every slot by one test.
 -- Assumes nothing.
-use Prim.Native.Nat.{ℕ, zero, suc, _≤_}
+use Prim.Native.Nat.{ℕ, _≤_}
 use mathlib.Core.Path.{_≡_, refl}
-use mathlib.Core.Bool.{Bool, true, _&&_}
-use mathlib.Core.List.{List, [], _∷_}
-use native.Mathlib.Omega.{arith}
-use lib.Dec.{leb}
-use lib.ListN.{length, getD}
-use borrow.Author.Tests.{leb-true}
+use mathlib.Core.Bool.{true}
+use lib.ListN.{length}
 use Rattle.text.specs.Bytes.{bytes}
 use Rattle.text.specs.Classes.{isBetween, printed, allPrinted}
-use Rattle.text.proofs.Laws.{and-left, and-right}
-use Rattle.forms.specs.Forms.{Slot, other}
-use Rattle.forms.specs.Notation.{slot}
 use Rattle.measure.specs.Measure.{cleanForm, cleanSlot}
+use Rattle.measure.proofs.Slots.{short-at, clean-at}
 use Rattle.table.specs.Table.{slots, lines, slotOf}
-
--- a fixed text has at most sixteen bytes: one test over all slots, and the rule at each
-abbrev short : List Slot → Bool
-short [] = true
-short (s ∷ ss) = leb (length (s .fixed)) 16 && short ss
-
-short-at : (ss : List Slot) (i : ℕ) → short ss ≡ true → length (getD ss i (slot "" other) .fixed) ≤ 16
-unfolding bytes
-short-at [] i e = omega arith
-short-at (s ∷ ss) zero e = leb-true (length (s .fixed)) 16 (and-left _ _ e)
-short-at (s ∷ ss) (suc i) e = short-at ss i (and-right (leb (length (s .fixed)) 16) _ e)
 
 pub fixed-short : (i : ℕ) → length (slotOf i .fixed) ≤ 16
 unfolding slotOf slots bytes
 fixed-short i = short-at lines i refl
-
--- a fixed text and the words of a form are of 20 to 7E hex: so too
-abbrev clean : List Slot → Bool
-clean [] = true
-clean (s ∷ ss) = cleanSlot s && clean ss
-
-clean-at : (ss : List Slot) (i : ℕ) → clean ss ≡ true → cleanSlot (getD ss i (slot "" other)) ≡ true
-unfolding bytes cleanSlot cleanForm printed
-clean-at [] i e = refl
-clean-at (s ∷ ss) zero e = and-left _ _ e
-clean-at (s ∷ ss) (suc i) e = clean-at ss i (and-right (cleanSlot s) _ e)
 
 pub slots-clean : (i : ℕ) → cleanSlot (slotOf i) ≡ true
 unfolding slotOf slots bytes cleanSlot cleanForm printed allPrinted isBetween

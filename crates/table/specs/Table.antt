@@ -7,7 +7,8 @@ use lib.ListN.{getD}
 use Rattle.text.specs.Bytes.{bytes}
 use Rattle.forms.specs.Forms.{Slot, nothing, codes, words, amount, date, moment, narrative, other}
 use Rattle.forms.specs.Notation.{slot}
-use Rattle.trade.specs.Records.{sides, kinds, narrativeSlot, passwordSlot, senderSlot}
+use Rattle.typed.specs.Sides.{sides}
+use Rattle.trade.specs.Records.{kinds, narrativeSlot, passwordSlot, senderSlot}
 
 abbrev pub reference : Slot
 reference = slot "//" (codes 1 16)

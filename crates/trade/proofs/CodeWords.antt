@@ -9,12 +9,11 @@ use Rattle.text.specs.Bytes.{bytes, parts}
 use Rattle.forms.specs.Forms.{wordAt}
 use Rattle.forms.specs.Narrative.{services, serviceIn}
 use Rattle.forms.specs.Slots.{wordsOf}
+use Rattle.typed.proofs.Laws.{first-else}
 use Rattle.trade.specs.Narrative.{serviceOf}
-use Rattle.trade.specs.Records.{kindIn, sideIn}
+use Rattle.trade.specs.Records.{kindIn}
 use Rattle.trade.specs.declared.Kind.{Kind}
-use Rattle.trade.specs.declared.Side.{Side}
 use Rattle.trade.specs.declared.Service.{Service}
-use Rattle.trade.proofs.Laws.{first-else}
 
 -- ---- code words by their places
 
@@ -25,14 +24,6 @@ module _ (v : List ℕ) (k : ℕ) (e : k ≡ wordAt (wordsOf (bytes "INSTCANCMDF
 
   pub kind-else : (k ≡ 1 → ⊥) → (k ≡ 2 → ⊥) → (k ≡ 3 → ⊥) → Kind.Inst ≡ kindIn v
   kind-else f g h = first-else Kind.Inst (Kind.Canc ∷ Kind.Mdfc ∷ Kind.Tddk ∷ []) k (λ p. omega arith) ∙ kind-is k refl
-
-module _ (v : List ℕ) (k : ℕ) (e : k ≡ wordAt (wordsOf (bytes "BUYISELL")) v) where
-  pub side-is : (n : ℕ) → k ≡ n → getD (Side.Buyi ∷ Side.Sell ∷ []) n Side.Buyi ≡ sideIn v
-  unfolding sideIn bytes wordsOf parts
-  side-is n h = rw (← h, e)
-
-  pub side-else : (k ≡ 1 → ⊥) → Side.Buyi ≡ sideIn v
-  side-else f = first-else Side.Buyi (Side.Sell ∷ []) k (λ p. omega arith) ∙ side-is k refl
 
 module _ (v : List ℕ) (k : ℕ) (e : k ≡ wordAt services (serviceIn v)) where
   pub service-is : (n : ℕ) → k ≡ n → getD (Service.Sbod ∷ Service.Tftd ∷ Service.Stip ∷ []) n Service.Sbod ≡ serviceOf v

@@ -14,10 +14,12 @@ use Rattle.calendar.specs.declared.DateRead.{DateRead}
 use Rattle.calendar.specs.declared.MomentRead.{MomentRead}
 use Rattle.forms.specs.Forms.{wordAt}
 use Rattle.typed.specs.Typed.{amountOr0, dateOr0, momentOr0}
-use Rattle.forms.specs.Narrative.{reasonIn}
+use Rattle.typed.specs.Sides.{sideIn}
+use Rattle.typed.specs.declared.Side.{Side}
+use Rattle.forms.specs.Narrative.{behindPeriod}
+use Rattle.reason.specs.Reason.{reasonIn}
 use Rattle.trade.specs.Narrative.{serviceOf, periodOf}
 use Rattle.trade.specs.declared.Kind.{Kind}
-use Rattle.trade.specs.declared.Side.{Side}
 use Rattle.trade.specs.declared.Service.{Service}
 use Rattle.trade.specs.declared.Period.{Period}
 use Rattle.trade.specs.declared.Party.{Party}
@@ -30,12 +32,6 @@ kinds = bytes "INST" ∷ bytes "CANC" ∷ bytes "MDFC" ∷ bytes "TDDK" ∷ []
 
 unfoldable pub kindIn : List ℕ → Kind
 kindIn v = getD (Kind.Inst ∷ Kind.Canc ∷ Kind.Mdfc ∷ Kind.Tddk ∷ []) (wordAt kinds v) Kind.Inst
-
-abbrev pub sides : List (List ℕ)
-sides = bytes "BUYI" ∷ bytes "SELL" ∷ []
-
-unfoldable pub sideIn : List ℕ → Side
-sideIn v = getD (Side.Buyi ∷ Side.Sell ∷ []) (wordAt sides v) Side.Buyi
 
 -- ---- the record of a message, from the values of its slots. Slots are numbered as document 01 numbers its fields, from 1 to the
 -- narrative's; it does not number the password and the sender
@@ -74,7 +70,7 @@ tradeOf value =
       pool = textOf (value 20);
       service = serviceOf (value narrativeSlot);
       period = periodOf (value narrativeSlot);
-      reason = textOf (reasonIn (value narrativeSlot));
+      reason = textOf (reasonIn (behindPeriod (value narrativeSlot)));
     }
 
 -- ---- the blank record: every text of length 0, every number zero, every optional field absent, every code word the first

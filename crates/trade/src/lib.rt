@@ -10,6 +10,7 @@ use calendar::Date;
 use calendar::Moment;
 use calendar::Time;
 use text::Text;
+use typed::Side;
 ghost use mathlib.Core.Path.{_≡_};
 ghost use Rattle.stretches.specs.Stretches.{stretchOf};
 ghost use Rattle.trade.specs.Records.{partyOf, tradeOf, blankTrade};
@@ -28,12 +29,6 @@ pub enum Kind {
     Canc,
     Mdfc,
     Tddk,
-}
-
-// Whether the sender buys or sells.
-pub enum Side {
-    Buyi,
-    Sell,
 }
 
 // The service of the trade.
@@ -162,7 +157,7 @@ fn details_at<'a, 'b>(message: &'a [u8], starts: &'b [usize], ends: &'b [usize])
         trad: typed::moment_at(message, starts, ends, 7),
         sett: typed::date_at(message, starts, ends, 8),
         price: Price::of(typed::amount_at(message, starts, ends, 9)),
-        side: words::side_in(stretches::stretch(message, starts, ends, 10)),
+        side: typed::sides::side_in(stretches::stretch(message, starts, ends, 10)),
         kind: words::kind_in(stretches::stretch(message, starts, ends, 11)),
     }
 }
@@ -178,7 +173,7 @@ fn security_at<'a, 'b>(message: &'a [u8], starts: &'b [usize], ends: &'b [usize]
         pool: typed::text_at(message, starts, ends, 20),
         service: narrative::service_of(narrative),
         period: narrative::period_of(narrative),
-        reason: Text::of(forms::narrative::reason_in(narrative)),
+        reason: narrative::reason_of(narrative),
     }
 }
 

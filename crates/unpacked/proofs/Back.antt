@@ -20,14 +20,15 @@ use Rattle.calendar.specs.declared.Moment.{Moment}
 use Rattle.calendar.proofs.Laws.{date-small, time-small}
 use Rattle.trade.specs.Records.{blankTrade}
 use Rattle.trade.specs.declared.Kind.{Kind}
-use Rattle.trade.specs.declared.Side.{Side}
+use Rattle.typed.specs.declared.Side.{Side}
 use Rattle.trade.specs.declared.Service.{Service}
 use Rattle.trade.specs.declared.Period.{Period}
 use Rattle.trade.specs.declared.Trade.{Trade}
 use Rattle.format.specs.Writable.{hold}
 use Rattle.table.specs.Table.{slotOf}
 use Rattle.table.specs.Tree.{tree}
-use Rattle.values.specs.Writable.{prepForm, periodForm, reasonForm, tests, inForm}
+use Rattle.reason.specs.Reason.{reasonForm}
+use Rattle.values.specs.Writable.{prepForm, periodForm, tests, inForm}
 use Rattle.format.proofs.BySlot.{fitted-form}
 use Rattle.values.proofs.Laws.{test}
 use Rattle.judge.specs.Judging.{judgeOf}

@@ -20,7 +20,8 @@ use Rattle.trade.specs.declared.Trade.{Trade}
 use Rattle.format.specs.Writable.{hold}
 use Rattle.table.specs.Table.{slotOf}
 use Rattle.table.specs.Tree.{tree}
-use Rattle.values.specs.Writable.{prepForm, periodForm, reasonForm, tests, inForm}
+use Rattle.reason.specs.Reason.{reasonForm}
+use Rattle.values.specs.Writable.{prepForm, periodForm, tests, inForm}
 use Rattle.format.proofs.BySlot.{fitted-form}
 use Rattle.values.proofs.Laws.{test}
 use Rattle.judge.proofs.Laws.{judge-zero}

@@ -2,7 +2,7 @@
 use trade::Kind;
 use trade::Period;
 use trade::Service;
-use trade::Side;
+use typed::Side;
 ghost use mathlib.Core.Path.{_≡_};
 ghost use Prim.Native.Nat.{_≤_};
 ghost use lib.ListN.{length};

@@ -6,8 +6,10 @@ use Rattle.text.specs.Texts.{contents, textOf}
 use Rattle.digits.specs.Numerals.{digits}
 use Rattle.amount.specs.Amounts.{whole, decimals, trimmed, keptBefore, shortened, tidy, inForm, spread, amountText}
 use Rattle.calendar.specs.Dates.{year, month, day, leap, lengths, monthLength, isDate, isTime, isMoment, dateText, momentText}
+use Rattle.reason.specs.Reason.{reasonText}
 use Rattle.kinds.specs.Kinds.{functionOf}
-use Rattle.values.specs.Values.{kindWord, sideWord, serviceWord, periodText, reasonText, narrative, values}
+use Rattle.typed.specs.Sides.{sideWord}
+use Rattle.values.specs.Values.{kindWord, serviceWord, periodText, narrative, values}
 use Rattle.values.specs.Cases.{b, full, cases, Answered}
 
 pub answered : Answered

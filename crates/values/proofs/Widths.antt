@@ -1,49 +1,27 @@
--- The mathematics of the crate's functions, over plain lists and numbers: the parts of a narrative, and how long a value is.
+-- The mathematics of the crate's functions, over plain lists and numbers: the parts of a narrative, and how long a word is.
 -- Assumes nothing.
-use Prim.Native.Nat.{ℕ, _+_, _-_, _*_, _≤_}
-use mathlib.Core.Path.{_≡_, refl, ap, _∙_}
+use Prim.Native.Nat.{ℕ, _≤_}
+use mathlib.Core.Path.{_≡_, refl, _∙_}
 use mathlib.Core.Bool.{Bool, true, false, cond}
 use mathlib.Core.List.{List, [], _++_, append-assoc}
 use native.Mathlib.Omega.{arith}
-use lib.ListN.{length, take, length-append, length-take}
+use lib.ListN.{length, take, length-append}
 use Rattle.text.specs.Bytes.{bytes}
-use Rattle.text.specs.Texts.{contents}
 use Rattle.text.specs.declared.Text.{Text}
-use Rattle.digits.specs.Numerals.{digits}
-use Rattle.digits.proofs.Laws.{length-digits}
-use Rattle.amount.specs.Amounts.{inForm as amountForm, amountText}
-use Rattle.amount.specs.declared.Amount.{Amount}
-use Rattle.amount.proofs.Laws.{written-length}
-use Rattle.amount.proofs.Noughts.{text-none}
-use Rattle.calendar.specs.Dates.{isDate, isMoment, dateText, momentText}
-use Rattle.calendar.specs.declared.Date.{Date}
-use Rattle.calendar.specs.declared.Moment.{Moment}
+use Rattle.reason.specs.Reason.{reasonText}
 use Rattle.trade.specs.declared.Kind.{Kind}
-use Rattle.trade.specs.declared.Side.{Side}
 use Rattle.trade.specs.declared.Service.{Service}
 use Rattle.trade.specs.declared.Period.{Period}
-use Rattle.kinds.specs.Kinds.{present, functionOf}
+use Rattle.kinds.specs.Kinds.{functionOf}
 use Rattle.fill.proofs.Runs.{Put, two, end-of, in-front}
-use Rattle.values.specs.Values.{kindWord, sideWord, serviceWord, periodText, reasonText, narrative}
+use Rattle.values.specs.Values.{kindWord, serviceWord, periodText, narrative}
 use Rattle.values.proofs.Narratives.{service-four}
 
 -- ---- the narrative: its three parts in a line of forty bytes
 
-pub contents-short : (t : Text) → length (t .bytes) ≡ 20 → length (contents t) ≤ 20
-unfolding contents
-contents-short t e = let l = length-take (t .len) (t .bytes) in omega arith
-
 pub service-long : (service : Service) → length (bytes "/TDSV" ++ serviceWord service) ≡ 9
 unfolding bytes
 service-long service = let h = service-four service in omega arith
-
-pub reason-short : (reason : Text) → length (reason .bytes) ≡ 20 → length (reasonText reason) ≤ 25
-unfolding reasonText bytes
-reason-short reason e = go (present reason)
-  where
-    go : (b : Bool) → length (cond b (bytes "/DKRS" ++ contents reason) []) ≤ 25
-    go true = let h = contents-short reason e in omega arith
-    go false = omega arith
 
 -- a service with its key, and the other two behind it
 pub narrative-is : (service : Service) (period : Period) (reason : Text) (w : List ℕ) → w ≡ bytes "/TDSV" ++ serviceWord service
@@ -59,12 +37,6 @@ module _ (line w : List ℕ) (forty : length line ≡ 40) (nine : length w ≡ 9
     both : Put line 0 (w ++ p) r₂ b₂
     both = two line 0 w p a b (omega arith)
 
-    pub behind-period : r₂ ≤ 15
-    behind-period =
-        let l = length-append w p in
-        let e = end-of line 0 (w ++ p) (both .0) (omega arith) in
-        omega arith
-
     module _ (q : List ℕ) (short : length q ≤ 25) {r₃ : ℕ} {b₃ : List ℕ} (c : Put b₂ r₂ q r₃ b₃) where
       all : Put line 0 ((w ++ p) ++ q) r₃ b₃
       all = let l = length-append w p in two line 0 (w ++ p) q both c (omega arith)
@@ -78,33 +50,7 @@ module _ (line w : List ℕ) (forty : length line ≡ 40) (nine : length w ≡ 9
       pub whole : take r₃ b₃ ≡ w ++ (p ++ q)
       whole = let f = few in in-front line ((w ++ p) ++ q) all (omega arith) ∙ append-assoc w p q
 
--- ---- how many bytes a value has at most
-
-pub moment-most : (m : Moment) → length (momentText m) ≤ 14
-unfolding momentText
-moment-most m = go (isMoment m)
-  where
-    go : (b : Bool) → length (cond b (digits 14 (m .date .0 * 1000000 + m .time .0)) []) ≤ 14
-    go true = let l = length-digits 14 (m .date .0 * 1000000 + m .time .0) in omega arith
-    go false = omega arith
-
-pub date-most : (d : Date) → length (dateText d) ≤ 8
-unfolding dateText
-date-most d = go (isDate (d .0))
-  where
-    go : (b : Bool) → length (cond b (digits 8 (d .0)) []) ≤ 8
-    go true = let l = length-digits 8 (d .0) in omega arith
-    go false = omega arith
-
-pub amount-most : (a : Amount) → length (amountText a) ≤ 15
-amount-most a = go (amountForm a) refl
-  where
-    go : (b : Bool) → amountForm a ≡ b → length (amountText a) ≤ 15
-    go true e = written-length a e
-    go false e = let l = ap length (text-none a e) in omega arith
-
-pub word-most : (w v : List ℕ) → w ≡ v → length v ≡ 4 → length w ≤ 4
-word-most w v e f = let l = ap length e in omega arith
+-- ---- code words
 
 pub function-four : (k : Kind) → length (functionOf k) ≡ 4
 unfolding functionOf bytes
@@ -119,8 +65,3 @@ kind-four Kind.Inst = refl
 kind-four Kind.Canc = refl
 kind-four Kind.Mdfc = refl
 kind-four Kind.Tddk = refl
-
-pub side-four : (s : Side) → length (sideWord s) ≡ 4
-unfolding sideWord bytes
-side-four Side.Buyi = refl
-side-four Side.Sell = refl

@@ -1,7 +1,6 @@
 -- Document 01, "The slots, in order", and "Plain form, and the record": the value that a record has for each slot, as it stands
 -- behind the slot's fixed text; nothing where the record has none.
 use Prim.Native.Nat.{ℕ}
-use mathlib.Core.Bool.{cond}
 use mathlib.Core.List.{List, [], _∷_, _++_}
 use lib.ListN.{getD}
 use Rattle.text.specs.Bytes.{bytes}
@@ -10,29 +9,24 @@ use Rattle.text.specs.declared.Text.{Text}
 use Rattle.digits.specs.Numerals.{digits}
 use Rattle.amount.specs.Amounts.{amountText}
 use Rattle.calendar.specs.Dates.{dateText, momentText}
+use Rattle.reason.specs.Reason.{reasonText}
+use Rattle.forms.specs.Words.{word}
 use Rattle.forms.specs.Narrative.{services}
-use Rattle.trade.specs.Records.{kinds, sides}
+use Rattle.typed.specs.Sides.{sideWord}
+use Rattle.trade.specs.Records.{kinds}
 use Rattle.trade.specs.declared.Kind.{Kind}
-use Rattle.trade.specs.declared.Side.{Side}
 use Rattle.trade.specs.declared.Service.{Service}
 use Rattle.trade.specs.declared.Period.{Period}
 use Rattle.trade.specs.declared.Trade.{Trade}
-use Rattle.kinds.specs.Kinds.{present, functionOf}
+use Rattle.kinds.specs.Kinds.{functionOf}
 
 -- ---- code words, from the lists that they are read by
-
-abbrev pub word : List (List ℕ) → ℕ → List ℕ
-word ws place = getD ws place []
 
 unfoldable pub kindWord : Kind → List ℕ
 kindWord Kind.Inst = word kinds 0
 kindWord Kind.Canc = word kinds 1
 kindWord Kind.Mdfc = word kinds 2
 kindWord Kind.Tddk = word kinds 3
-
-unfoldable pub sideWord : Side → List ℕ
-sideWord Side.Buyi = word sides 0
-sideWord Side.Sell = word sides 1
 
 unfoldable pub serviceWord : Service → List ℕ
 serviceWord Service.Sbod = word services 0
@@ -45,9 +39,6 @@ serviceWord Service.Stip = word services 2
 unfoldable pub periodText : Period → List ℕ
 periodText Period.Absent = []
 periodText (Period.Days n) = bytes "/GUPP" ++ digits 1 n
-
-unfoldable pub reasonText : Text → List ℕ
-reasonText reason = cond (present reason) (bytes "/DKRS" ++ contents reason) []
 
 unfoldable pub narrative : Service → Period → Text → List ℕ
 narrative service period reason = bytes "/TDSV" ++ (serviceWord service ++ (periodText period ++ reasonText reason))

@@ -3,11 +3,11 @@ use Prim.Native.Nat.{ℕ}
 use mathlib.Core.Bool.{Bool, true, _&&_, _||_}
 use mathlib.Core.List.{List, [], _∷_}
 use lib.Dec.{leb, eqb}
-use Rattle.text.specs.Texts.{inForm as textForm}
 use Rattle.text.specs.declared.Text.{Text}
 use Rattle.amount.specs.Amounts.{inForm as amountForm}
 use Rattle.calendar.specs.Dates.{isDate, isMoment}
 use Rattle.calendar.specs.declared.Moment.{Moment}
+use Rattle.reason.specs.Reason.{reasonForm}
 use Rattle.format.specs.Writable as Any
 use Rattle.format.specs.Writable.{hold}
 use Rattle.trade.specs.Records.{passwordSlot, senderSlot}
@@ -24,10 +24,6 @@ prepForm m = (eqb (m .date .0) 0 && eqb (m .time .0) 0) || isMoment m
 unfoldable pub periodForm : Period → Bool
 periodForm Period.Absent = true
 periodForm (Period.Days n) = leb n 9
-
--- DKRS is absent or 4 c
-unfoldable pub reasonForm : Text → Bool
-reasonForm reason = textForm 0 0 reason || textForm 4 4 reason
 
 -- ---- one test for each slot, in their order. What the layout makes mandatory must be there; what is optional may be of length
 -- 0. Code words are always words of their lists, and 23G is not held

@@ -26,7 +26,7 @@ pub fn put_values(text: &mut [u8], places: &mut [usize; 31], trade: Trade)
     places[1] = 0;
     let details = slots::put_general(text, places, trade);
     let buyer = slots::put_details(text, places, details, trade);
-    let seller = slots::put_three(
+    let seller = placing::put_three(
         text,
         places,
         buyer,
@@ -35,7 +35,7 @@ pub fn put_values(text: &mut [u8], places: &mut [usize; 31], trade: Trade)
         trade.buyer.reference,
         trade.buyer.trader,
     );
-    let security = slots::put_three(
+    let security = placing::put_three(
         text,
         places,
         seller,

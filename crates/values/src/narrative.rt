@@ -7,7 +7,7 @@ ghost use mathlib.Core.Path.{_≡_};
 ghost use Prim.Native.Nat.{_+_, _≤_};
 ghost use lib.ListN.{length};
 ghost use Rattle.text.specs.Copy.{placed, after};
-ghost use Rattle.values.specs.Values.{periodText, reasonText, narrative};
+ghost use Rattle.values.specs.Values.{periodText, narrative};
 
 // `/GUPP` and its digit, 0 too; nothing where there is no period.
 fn put_period(line: &mut [u8], at: usize, period: Period) -> usize
@@ -21,18 +21,6 @@ fn put_period(line: &mut [u8], at: usize, period: Period) -> usize
             digits::put_digits(line, next, 1, days)
         }
     }
-}
-
-// `/DKRS` and the reason; nothing where there is none.
-fn put_reason(line: &mut [u8], at: usize, reason: Text) -> usize
-    requires { ⌜ at + 25 ≤ length (now line) ⌝ }
-    ensures { λ r. ⌜ (r ≡ after (now (line .entry)) at (reasonText reason)) × (now (line .exit) ≡ placed (now (line .entry)) at (reasonText reason)) ⌝ }
-{
-    if reason.len == 0 {
-        return text::put(line, at, b"");
-    }
-    let next = text::put(line, at, b"/DKRS");
-    text::put_text(line, next, reason)
 }
 
 // The narrative as one part, as `text::put` puts a part; it has at most 40 bytes.
@@ -49,6 +37,6 @@ pub(crate) fn put_narrative(
     let mut line = [0u8; 40];
     let behind = text::put(&mut line, 0, &word);
     let next = put_period(&mut line, behind, period);
-    let end = put_reason(&mut line, next, reason);
+    let end = reason::put(&mut line, next, reason);
     text::put(buf, at, &line[..end])
 }

@@ -1,12 +1,11 @@
 // The code words that a record's cases are written as.
 use trade::Kind;
 use trade::Service;
-use trade::Side;
 ghost use mathlib.Core.Path.{_≡_};
 ghost use mathlib.Core.List.{_++_};
 ghost use Rattle.text.specs.Bytes.{bytes};
 ghost use Rattle.kinds.specs.Kinds.{functionOf};
-ghost use Rattle.values.specs.Values.{kindWord, sideWord, serviceWord};
+ghost use Rattle.values.specs.Values.{kindWord, serviceWord};
 
 // 23G follows from the kind.
 pub(crate) fn function_word(kind: Kind) -> [u8; 4]
@@ -28,15 +27,6 @@ pub fn kind_word(kind: Kind) -> [u8; 4]
         Kind::Canc => *b"CANC",
         Kind::Mdfc => *b"MDFC",
         Kind::Tddk => *b"TDDK",
-    }
-}
-
-pub(crate) fn side_word(side: Side) -> [u8; 4]
-    ensures { λ r. ⌜ r ≡ sideWord side ⌝ }
-{
-    match side {
-        Side::Buyi => *b"BUYI",
-        Side::Sell => *b"SELL",
     }
 }
 

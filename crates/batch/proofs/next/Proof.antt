@@ -1,6 +1,11 @@
 -- `batch::next` meets its contract: past the end, at the end, or a piece that is read. Assumes nothing.
+use mathlib.Core.Path.{ap}
 use native.Mathlib.Omega.{arith}
-use Rattle.batch.proofs.Answers.{next-message, front-within, next-done, next-past}
+use Rattle.pieces.proofs.Answers.{front-within, at-front, at-end, past-end}
+use Rattle.mt515.specs.Reading.{frontOf}
+use Rattle.mt515.specs.declared.Front.{Front}
+use Rattle.batch.specs.Batch.{saysOf}
+use Rattle.batch.proofs.Answers.{whole}
 use borrow.Author.Needs.{needs}
 use Rattle.batch.proofs.next.Statement.{statement}
 use Rattle.batch.proofs.next.Tie as tie
@@ -9,13 +14,15 @@ without-message-requires : tie.Need-without-message-requires
 without-message-requires c κs = search needs
 
 returns : tie.Need-returns
-returns c = let a = c .before .before .before .args in next-past (a .batch .now) (a .position) (c .before .if1 .taken) _ (c .without-message .ensures)
+unfolding saysOf
+returns c = whole _ _ (past-end _ _ saysOf (c .before .if1 .taken) (c .without-message .ensures))
 
 without-message-requires-2 : tie.Need-without-message-requires-2
 without-message-requires-2 c κs = search needs
 
 returns-2 : tie.Need-returns-2
-returns-2 c = next-done _ _ (c .before .if2 .taken) _ (c .without-message2 .ensures)
+unfolding saysOf
+returns-2 c = whole _ _ (at-end _ _ saysOf (c .before .if2 .taken) (c .without-message2 .ensures))
 
 sub-read-front : tie.Need-sub-read-front
 sub-read-front c = search needs
@@ -30,19 +37,22 @@ read-front-requires : tie.Need-read-front-requires
 read-front-requires c κs = search needs
 
 add-end : tie.Need-add-end
+unfolding frontOf
 add-end c =
     let r = c .before .before in
     let e = r .before .before .before in
     let a = e .before .before .args in
-    let w = front-within (a .batch .now) (a .position) _ (r .read-front .ensures) (e .if1 .left) in
+    let w = front-within (a .batch .now) (a .position) _ (ap (λ (f : Front). f .length) (r .read-front .ensures)) (e .if1 .left) in
     omega arith
 
 returns-3 : tie.Need-returns-3
+unfolding frontOf saysOf
 returns-3 c =
     let r = c .before .before in
     let e = r .before .before in
     let a = e .before .before .before .args in
-    next-message (a .batch .now) (a .position) _ (r .read-front .ensures) (omega (arith, e .if2 .left, e .before .if1 .left))
+    let is = r .read-front .ensures in
+    whole _ _ (at-front (a .batch .now) (a .position) saysOf (omega (arith, e .if2 .left, e .before .if1 .left)) (ap (λ (f : Front). f .reading) is) (ap (λ (f : Front). f .length) is))
 
 pub next-spec : {M : Type 1} → statement M
 next-spec =

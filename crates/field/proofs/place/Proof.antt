@@ -1,11 +1,15 @@
 -- `field::place` meets its contract: a refused message, a number that names no slot, or a search. Assumes nothing.
-use mathlib.Core.Path.{refl}
+use mathlib.Core.Path.{refl, _∙_}
 use borrow.Author.Needs.{needs}
 use Rattle.text.specs.Bytes.{bytes, parts}
 use Rattle.layout.specs.Rows.{rowOf, keyOf, firstRow, rowsOf}
 use Rattle.sheets.specs.Trees.{fieldRows, memberRows, rowsIn, tableOf}
 use Rattle.table.specs.Tree.{general, pool, details, tree}
-use Rattle.field.proofs.Steps.{below-named, above-named, is-named, turned-away, unnamed, searched}
+use Rattle.format.proofs.Finding.{below-named, above-named, is-named, turned-away, unnamed, searched}
+use Rattle.values.specs.Mt515.{mt515}
+use Rattle.values.proofs.Laid.{layout}
+use Rattle.demands.proofs.Laws.{laws}
+use Rattle.field.proofs.Steps.{whole, number-is}
 use Rattle.field.proofs.place.Statement.{statement}
 use Rattle.field.proofs.place.Tie as tie
 
@@ -16,7 +20,7 @@ nowhere-requires : tie.Need-nowhere-requires
 nowhere-requires c κs = search needs
 
 returns : tie.Need-returns
-returns c = turned-away _ _ _ (c .before .before .before .read .ensures) (c .before .if1 .taken) _ (c .nowhere .ensures)
+returns c = c .nowhere .ensures ∙ whole _ _ (turned-away mt515 _ _ _ (number-is _ (c .before .before .before .read .ensures)) (c .before .if1 .taken))
 
 nowhere-requires-2 : tie.Need-nowhere-requires-2
 nowhere-requires-2 c κs = search needs
@@ -24,7 +28,7 @@ nowhere-requires-2 c κs = search needs
 returns-2 : tie.Need-returns-2
 returns-2 c =
     let e = c .before .before in
-    unnamed _ _ _ (e .before .before .read .ensures) (e .if1 .left) (below-named _ (c .before .if2 .taken)) _ (c .nowhere2 .ensures)
+    c .nowhere2 .ensures ∙ whole _ _ (unnamed mt515 _ _ _ (number-is _ (e .before .before .read .ensures)) (e .if1 .left) (below-named 21 _ (c .before .if2 .taken)))
 
 nowhere-requires-3 : tie.Need-nowhere-requires-3
 nowhere-requires-3 c κs = search needs
@@ -32,7 +36,7 @@ nowhere-requires-3 c κs = search needs
 returns-3 : tie.Need-returns-3
 returns-3 c =
     let e = c .before .before .before in
-    unnamed _ _ _ (e .before .before .read .ensures) (e .if1 .left) (above-named _ (c .before .if3 .taken)) _ (c .nowhere3 .ensures)
+    c .nowhere3 .ensures ∙ whole _ _ (unnamed mt515 _ _ _ (number-is _ (e .before .before .read .ensures)) (e .if1 .left) (above-named 21 _ (c .before .if3 .taken)))
 
 slice-aggregate-find : tie.Need-slice-aggregate-find
 slice-aggregate-find c = search needs
@@ -49,7 +53,8 @@ unfolding bytes parts rowOf keyOf firstRow rowsOf tableOf tree general pool deta
 returns-4 c =
     let t = c .before .before .before in
     let e = t .before .before in
-    searched _ _ _ (e .before .before .read .ensures) (e .if1 .left) (is-named _ (t .before .if2 .left) (t .if3 .left)) _ refl _ (c .before .front-of .ensures) _ (c .find .ensures)
+    whole _ _
+    (searched mt515 _ _ _ (number-is _ (e .before .before .read .ensures)) (e .if1 .left) layout laws (is-named 21 _ (t .before .if2 .left) (t .if3 .left)) _ refl _ (c .before .front-of .ensures) _ (c .find .ensures))
 
 pub place-spec : {M : Type 1} → statement M
 place-spec =

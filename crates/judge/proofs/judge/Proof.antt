@@ -1,7 +1,8 @@
 -- `judge::judge` meets its contract. Assumes nothing.
-use mathlib.Core.Path.{sym, _∙_}
+use mathlib.Core.Path.{refl, sym, _∙_}
 use borrow.Author.Tests.{not-true, not-false}
-use Rattle.judge.proofs.Tests.{out-of-form, rule-broken, too-long, nothing-wrong}
+use Rattle.format.proofs.Judging.{out-of-form, rule-broken, too-long, nothing-wrong}
+use Rattle.values.specs.Mt515.{mt515}
 use borrow.Author.Needs.{needs}
 use Rattle.judge.proofs.judge.Statement.{statement}
 use Rattle.judge.proofs.judge.Tie as tie
@@ -10,22 +11,22 @@ in-form-requires : tie.Need-in-form-requires
 in-form-requires c κs = search needs
 
 returns : tie.Need-returns
-returns c = out-of-form _ (sym (c .before .in-form .ensures) ∙ not-true _ (c .if1 .taken))
+returns c = out-of-form mt515 _ (sym (c .before .in-form .ensures) ∙ not-true _ (c .if1 .taken))
 
 record-pass-requires : tie.Need-record-pass-requires
 record-pass-requires c κs = search needs
 
 returns-2 : tie.Need-returns-2
-returns-2 c = rule-broken _ (sym (c .before .before .before .before .in-form .ensures) ∙ not-false _ (c .before .before .before .if1 .left)) _ (c .before .before .record-pass .ensures) (c .if2 .taken)
+returns-2 c = rule-broken mt515 _ (sym (c .before .before .before .before .in-form .ensures) ∙ not-false _ (c .before .before .before .if1 .left)) _ 21 refl _ (c .before .before .record-pass .ensures) (c .if2 .taken)
 
 narrative-length-requires : tie.Need-narrative-length-requires
 narrative-length-requires c κs = search needs
 
 returns-3 : tie.Need-returns-3
-returns-3 c = too-long _ (sym (c .before .before .before .before .before .before .in-form .ensures) ∙ not-false _ (c .before .before .before .before .before .if1 .left)) _ (c .before .before .before .before .record-pass .ensures) (c .before .before .if2 .left) _ (c .before .narrative-length .ensures) (c .if3 .taken)
+returns-3 c = too-long mt515 _ (sym (c .before .before .before .before .before .before .in-form .ensures) ∙ not-false _ (c .before .before .before .before .before .if1 .left)) _ 21 refl _ (c .before .before .before .before .record-pass .ensures) (c .before .before .if2 .left) _ (c .before .narrative-length .ensures) (c .if3 .taken)
 
 returns-4 : tie.Need-returns-4
-returns-4 c = nothing-wrong _ (sym (c .before .before .before .before .before .before .in-form .ensures) ∙ not-false _ (c .before .before .before .before .before .if1 .left)) _ (c .before .before .before .before .record-pass .ensures) (c .before .before .if2 .left) _ (c .before .narrative-length .ensures) (c .if3 .left)
+returns-4 c = nothing-wrong mt515 _ (sym (c .before .before .before .before .before .before .in-form .ensures) ∙ not-false _ (c .before .before .before .before .before .if1 .left)) _ 21 refl _ (c .before .before .before .before .record-pass .ensures) (c .before .before .if2 .left) _ (c .before .narrative-length .ensures) (c .if3 .left)
 
 pub judge-spec : {M : Type 1} → statement M
 judge-spec =

@@ -1,5 +1,5 @@
 -- `kinds::has_forbidden` meets its contract: each arm is its kind's line of the definition. Assumes nothing.
-use Rattle.kinds.proofs.Rules.{by-kind}
+use Rattle.lines.proofs.Rules.{by-kind}
 use Rattle.kinds.specs.Kinds.{hasForbidden}
 use borrow.Author.Needs.{needs}
 use Rattle.kinds.proofs.has_forbidden.Statement.{statement}
@@ -31,19 +31,19 @@ tddk-never-requires c κs = search needs
 
 returns : tie.Need-returns
 unfolding hasForbidden
-returns c = by-kind hasForbidden (c .before .before .before .before .before .args .trade) _ _ (c .enum-told .given .1) (rw (← c .before .before .before .before .present .ensures, ← c .before .before .before .present2 .ensures, ← c .before .before .tddk-only .ensures))
+returns c = by-kind hasForbidden (c .before .before .before .before .before .args .trade) _ (c .enum-told .given .1) (rw (← c .before .before .before .before .present .ensures, ← c .before .before .before .present2 .ensures, ← c .before .before .tddk-only .ensures))
 
 returns-2 : tie.Need-returns-2
 unfolding hasForbidden
-returns-2 c = by-kind hasForbidden (c .before .before .before .before .before .args .trade) _ _ (c .enum-told2 .given .1) (rw (← c .before .before .before .before .present .ensures, ← c .before .before .tddk-only .ensures))
+returns-2 c = by-kind hasForbidden (c .before .before .before .before .before .args .trade) _ (c .enum-told2 .given .1) (rw (← c .before .before .before .before .present .ensures, ← c .before .before .tddk-only .ensures))
 
 returns-3 : tie.Need-returns-3
 unfolding hasForbidden
-returns-3 c = by-kind hasForbidden (c .before .before .before .before .before .args .trade) _ _ (c .enum-told3 .given .1) (c .before .before .tddk-only .ensures)
+returns-3 c = by-kind hasForbidden (c .before .before .before .before .before .args .trade) _ (c .enum-told3 .given .1) (c .before .before .tddk-only .ensures)
 
 returns-4 : tie.Need-returns-4
 unfolding hasForbidden
-returns-4 c = by-kind hasForbidden (c .before .before .before .before .before .before .args .trade) _ _ (c .before .enum-told4 .given .1) (c .tddk-never .ensures)
+returns-4 c = by-kind hasForbidden (c .before .before .before .before .before .before .args .trade) _ (c .before .enum-told4 .given .1) (c .tddk-never .ensures)
 
 pub has-forbidden-spec : {M : Type 1} → statement M
 has-forbidden-spec =

@@ -1,8 +1,8 @@
 -- `kinds::kinds_pass` meets its contract. Assumes nothing.
 use mathlib.Core.Path.{refl, sym, ap, _∙_}
 use mathlib.Core.Bool.{not}
+use Rattle.lines.proofs.Rules.{stops, goes-on}
 use Rattle.kinds.specs.Kinds.{kindsPass}
-use Rattle.kinds.proofs.Rules.{stops, goes-on}
 use borrow.Author.Needs.{needs}
 use Rattle.kinds.proofs.kinds_pass.Statement.{statement}
 use Rattle.kinds.proofs.kinds_pass.Tie as tie

@@ -1,5 +1,5 @@
 -- `kinds::lacks_field` meets its contract: each arm is its kind's line of the definition. Assumes nothing.
-use Rattle.kinds.proofs.Rules.{by-kind}
+use Rattle.lines.proofs.Rules.{by-kind}
 use Rattle.kinds.specs.Kinds.{lacksField}
 use borrow.Author.Needs.{needs}
 use Rattle.kinds.proofs.lacks_field.Statement.{statement}
@@ -28,19 +28,19 @@ enum-told-4 c = search needs
 
 returns : tie.Need-returns
 unfolding lacksField
-returns c = by-kind lacksField (c .before .before .before .before .before .args .trade) _ _ (c .enum-told .given .1) (rw (← c .before .before .before .before .present .ensures))
+returns c = by-kind lacksField (c .before .before .before .before .before .args .trade) _ (c .enum-told .given .1) (rw (← c .before .before .before .before .present .ensures))
 
 returns-2 : tie.Need-returns-2
 unfolding lacksField
-returns-2 c = by-kind lacksField (c .before .before .before .before .before .args .trade) _ _ (c .enum-told2 .given .1) (rw (← c .before .before .before .before .present .ensures))
+returns-2 c = by-kind lacksField (c .before .before .before .before .before .args .trade) _ (c .enum-told2 .given .1) (rw (← c .before .before .before .before .present .ensures))
 
 returns-3 : tie.Need-returns-3
 unfolding lacksField
-returns-3 c = by-kind lacksField (c .before .before .before .before .before .args .trade) _ _ (c .enum-told3 .given .1) (rw (← c .before .before .before .before .present .ensures))
+returns-3 c = by-kind lacksField (c .before .before .before .before .before .args .trade) _ (c .enum-told3 .given .1) (rw (← c .before .before .before .before .present .ensures))
 
 returns-4 : tie.Need-returns-4
 unfolding lacksField
-returns-4 c = by-kind lacksField (c .before .before .before .before .before .args .trade) _ _ (c .enum-told4 .given .1) (rw (← c .before .before .contra .ensures, ← c .before .before .before .present2 .ensures))
+returns-4 c = by-kind lacksField (c .before .before .before .before .before .args .trade) _ (c .enum-told4 .given .1) (rw (← c .before .before .contra .ensures, ← c .before .before .before .present2 .ensures))
 
 pub lacks-field-spec : {M : Type 1} → statement M
 lacks-field-spec =

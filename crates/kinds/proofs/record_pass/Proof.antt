@@ -2,8 +2,8 @@
 use mathlib.Core.Path.{refl, sym, _∙_}
 use borrow.Author.Tests.{eq-eqb, ne-eqb}
 use Rattle.lines.specs.Verdicts.{refused, pass}
+use Rattle.lines.proofs.Rules.{stops, goes-on, broken, kept}
 use Rattle.kinds.specs.Kinds.{recordPass}
-use Rattle.kinds.proofs.Rules.{stops, goes-on, broken, kept}
 use borrow.Author.Needs.{needs}
 use Rattle.kinds.proofs.record_pass.Statement.{statement}
 use Rattle.kinds.proofs.record_pass.Tie as tie

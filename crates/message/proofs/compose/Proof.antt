@@ -3,10 +3,10 @@ use mathlib.Core.Path.{_≡_, sym, ap}
 use native.Mathlib.Omega.{arith}
 use lib.ListN.{length}
 use Rattle.writer.proofs.Laws.{put-whole}
+use Rattle.writer.proofs.Writes.{values-lent}
 use Rattle.values.specs.Mt515.{mt515}
-use Rattle.values.specs.Values.{values}
+use Rattle.values.specs.Values.{values, valueOf}
 use Rattle.fill.specs.Places.{ends}
-use Rattle.message.proofs.Writes.{values-lent}
 use borrow.Author.Needs.{needs}
 use Rattle.message.proofs.compose.Statement.{statement}
 use Rattle.message.proofs.compose.Tie as tie
@@ -44,11 +44,12 @@ same-length : tie.Need-same-length
 same-length c = search needs
 
 returns : tie.Need-returns
+unfolding valueOf
 returns c =
     let v = c .before .before .before .before .before .before .before .before in
     let s = v .before .before .before .before in
     let e = v .put-values .ensures in
-    put-whole mt515 (s .args .trade) _ (values-lent (s .args .trade) _ _ _ (e .0) (e .1) (e .2)) (s .args .buf .now) (c .before .before .put .ensures) (s .pre)
+    put-whole mt515 (s .args .trade) _ (values-lent (values (s .args .trade)) _ _ _ (e .0) (e .1) (e .2)) (s .args .buf .now) (c .before .before .put .ensures) (s .pre)
 
 pub compose-spec : {M : Type 1} → statement M
 compose-spec =

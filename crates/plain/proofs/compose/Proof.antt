@@ -1,6 +1,7 @@
 -- `plain::compose` meets its contract: what is lent is the message itself, with the places of its values. Assumes nothing.
 use mathlib.Core.Path.{_≡_}
 use lib.ListN.{length}
+use Rattle.format.proofs.Moved.{move, stay}
 use Rattle.plain.proofs.Answers.{put-plain}
 use borrow.Author.Needs.{needs}
 use Rattle.plain.proofs.compose.Statement.{statement}
@@ -51,8 +52,7 @@ returns c =
     let s = a .before .before .before .before .before .before .before in
     let l : length (s .args .body .starts) ≡ 40 = starts-many s in
     let e : length (s .args .body .ends) ≡ 40 = ends-many s in
-    put-plain (s .args .message .now) (s .pre .1) (s .args .body) (s .pre .0) l e _ _ _ _ (a .move-in .ensures .0) (a .move-in .ensures .1) (b .move-in2 .ensures .0) (b .move-in2 .ensures .1)
-    (s .args .buf .now) (p .put .ensures) (s .pre .2)
+    put-plain (s .args .message .now) (s .pre .1) (s .args .body) (s .pre .0) l e (move (a .move-in .ensures) (move (b .move-in2 .ensures) stay)) (s .args .buf .now) (p .put .ensures) (s .pre .2)
 
 pub compose-spec : {M : Type 1} → statement M
 compose-spec =

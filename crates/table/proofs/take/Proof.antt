@@ -1,19 +1,17 @@
--- `table::take` meets its contract: the bytes of the header, of the table and of the slots are those of specs/Table and specs/Tree, by
--- computation. Assumes nothing.
+-- `table::take` meets its contract: the bytes that it lends are the header's, the table's and the slots', by computation. Assumes
+-- nothing.
 use Prim.Native.Nat.{ℕ}
-use mathlib.Core.Path.{_≡_, refl, fun-ext, _∙_}
+use mathlib.Core.Path.{_≡_, refl}
 use mathlib.Core.List.{List}
-use lib.ListN.{length}
 use denote.Ref.{now}
 use Rattle.text.specs.Bytes.{bytes, parts}
 use Rattle.layout.specs.Rows.{rowOf, keyOf, firstRow, rowsOf}
 use Rattle.forms.specs.Slots.{reaches, lineIn, textIn, wordsIn, formOf, formIn, slotAt}
-use Rattle.forms.proofs.Tables.{places}
 use Rattle.sheets.specs.Trees.{fieldRows, memberRows, rowsIn, tableOf}
 use Rattle.reader.specs.Take.{takeOf}
-use Rattle.table.specs.Table.{header, slots, lines}
+use Rattle.table.specs.Table.{header, slots}
 use Rattle.table.specs.Tree.{general, pool, details, tree}
-use Rattle.table.proofs.Tables.{slots-are}
+use Rattle.table.proofs.Tables.{Right, lent-right}
 use borrow.Author.Needs.{needs}
 use Rattle.table.proofs.take.Statement.{statement}
 use Rattle.table.proofs.take.Tie as tie
@@ -35,20 +33,14 @@ lent : (c : tie.After-take) → (heads : List ℕ) × (rows : List ℕ) × (slot
     × (c .take .result ≡ takeOf (rowsOf rows) (slotAt slots) heads (now (c .before .before .before .before .before .args .message)))
 lent c = (_, _, _, c .take .ensures)
 
-is-header : (c : tie.After-take) → lent c .0 ≡ header
-unfolding lent header
-is-header c = refl
-
-is-table : (c : tie.After-take) → rowsOf (lent c .1) ≡ tableOf tree
-unfolding lent bytes parts rowOf keyOf firstRow rowsOf tableOf tree general pool details rowsIn memberRows fieldRows
-is-table c = refl
-
-are-slots : (c : tie.After-take) → (places (lent c .2) 0 42 ≡ lines) × (length (lent c .2) ≡ 840)
-unfolding lent bytes reaches lineIn textIn wordsIn formOf formIn slotAt slots
-are-slots c = (refl, refl)
+right : (c : tie.After-take) → Right (lent c .0) (lent c .1) (lent c .2)
+unfolding lent bytes parts rowOf keyOf firstRow rowsOf tableOf tree general pool details rowsIn memberRows fieldRows reaches lineIn textIn wordsIn formOf formIn slotAt header slots
+right c = record { is-header = refl; is-table = refl; are-slots = refl; long = refl }
 
 returns : tie.Need-returns
-returns c = let s = are-slots c in lent c .3 ∙ rw (is-header c, is-table c, fun-ext (slots-are (lent c .2) (s .0) (s .1)))
+returns c =
+    let m : List ℕ = now (c .before .before .before .before .before .args .message) in
+    lent-right (λ table slots heads. c .take .result ≡ takeOf table slots heads m) (right c) (lent c .3)
 
 pub take-spec : {M : Type 1} → statement M
 take-spec = tie.close (tie.spec slice-aggregate-take slice-aggregate-take-2 slice-aggregate-take-3 take-requires returns)

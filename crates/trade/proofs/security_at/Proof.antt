@@ -5,7 +5,6 @@ use borrow.Author.Needs.{needs}
 use Rattle.trade.proofs.security_at.Statement.{statement}
 use Rattle.trade.proofs.security_at.Tie as tie
 use Rattle.amount.proofs.Par.of.Reads as Par-of-reads
-use Rattle.text.proofs.Text.of.Reads as Text-of-reads
 
 stretch-requires : tie.Need-stretch-requires
 stretch-requires c κs = search needs
@@ -28,24 +27,20 @@ service-of-requires c κs = search needs
 period-of-requires : tie.Need-period-of-requires
 period-of-requires c κs = search needs
 
-reason-in-requires : tie.Need-reason-in-requires
-reason-in-requires c κs = search needs
-
-of-requires-2 : tie.Need-of-requires-2
-of-requires-2 c κs = search needs
+reason-of-requires : tie.Need-reason-of-requires
+reason-of-requires c κs = search needs
 
 returns : tie.Need-returns
 unfolding securityOf tradeOf
 returns c = rw (
-  ← c .before .before .before .before .before .before .before .before .stretch .ensures,
-  ← c .before .before .before .before .before .before .before .amount-at .ensures,
-  ← c .before .before .before .before .before .before .of .ensures,
-  ← c .before .before .before .before .before .text-at .ensures,
-  ← c .before .before .before .before .text-at2 .ensures,
-  ← c .before .before .before .service-of .ensures,
-  ← c .before .before .period-of .ensures,
-  ← c .before .reason-in .ensures,
-  ← c .of2 .ensures,
+  ← c .before .before .before .before .before .before .before .stretch .ensures,
+  ← c .before .before .before .before .before .before .amount-at .ensures,
+  ← c .before .before .before .before .before .of .ensures,
+  ← c .before .before .before .before .text-at .ensures,
+  ← c .before .before .before .text-at2 .ensures,
+  ← c .before .before .service-of .ensures,
+  ← c .before .period-of .ensures,
+  ← c .reason-of .ensures,
 )
 
 pub security-at-spec : {M : Type 1} → statement M
@@ -59,6 +54,5 @@ security-at-spec =
     text-at-requires-2
     service-of-requires
     period-of-requires
-    reason-in-requires
-    of-requires-2
+    reason-of-requires
     returns)

@@ -19,13 +19,13 @@ in-form-requires-3 c κs = search needs
 period-form-requires : tie.Need-period-form-requires
 period-form-requires c κs = search needs
 
-reason-form-requires : tie.Need-reason-form-requires
-reason-form-requires c κs = search needs
+in-form-requires-4 : tie.Need-in-form-requires-4
+in-form-requires-4 c κs = search needs
 
 returns : tie.Need-returns
 unfolding tests hold
 returns c =
-    rw (widths .cusip _, widths .pool _, ← c .before .before .before .before .in-form .ensures, ← c .before .before .before .in-form2 .ensures, ← c .before .before .in-form3 .ensures, ← c .before .period-form .ensures, ← c .reason-form .ensures, and-true (c .before .period-form .result && c .reason-form .result))
+    rw (widths .cusip _, widths .pool _, ← c .before .before .before .before .in-form .ensures, ← c .before .before .before .in-form2 .ensures, ← c .before .before .in-form3 .ensures, ← c .before .period-form .ensures, ← c .in-form4 .ensures, and-true (c .before .period-form .result && c .in-form4 .result))
 
 pub security-form-spec : {M : Type 1} → statement M
 security-form-spec =
@@ -35,5 +35,5 @@ security-form-spec =
     in-form-requires-2
     in-form-requires-3
     period-form-requires
-    reason-form-requires
+    in-form-requires-4
     returns)

@@ -3,7 +3,7 @@ use mathlib.Core.List.{[], _∷_}
 use native.Mathlib.Omega.{arith}
 use Rattle.trade.specs.declared.Kind.{Kind}
 use Rattle.unpacked.specs.Unpacked.{kindFrom}
-use Rattle.trade.proofs.Laws.{first-else}
+use Rattle.typed.proofs.Laws.{first-else}
 use Rattle.unpacked.proofs.codes.kind_from.Statement.{statement}
 use Rattle.unpacked.proofs.codes.kind_from.Tie as tie
 

@@ -3,7 +3,7 @@ use mathlib.Core.List.{[], _∷_}
 use native.Mathlib.Omega.{arith}
 use Rattle.trade.specs.declared.Service.{Service}
 use Rattle.unpacked.specs.Unpacked.{serviceFrom}
-use Rattle.trade.proofs.Laws.{first-else}
+use Rattle.typed.proofs.Laws.{first-else}
 use Rattle.unpacked.proofs.codes.service_from.Statement.{statement}
 use Rattle.unpacked.proofs.codes.service_from.Tie as tie
 

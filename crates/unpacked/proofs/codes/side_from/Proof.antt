@@ -1,9 +1,9 @@
 -- `unpacked::codes::side_from` meets its contract. Assumes nothing.
 use mathlib.Core.List.{[], _∷_}
 use native.Mathlib.Omega.{arith}
-use Rattle.trade.specs.declared.Side.{Side}
+use Rattle.typed.specs.declared.Side.{Side}
 use Rattle.unpacked.specs.Unpacked.{sideFrom}
-use Rattle.trade.proofs.Laws.{first-else}
+use Rattle.typed.proofs.Laws.{first-else}
 use Rattle.unpacked.proofs.codes.side_from.Statement.{statement}
 use Rattle.unpacked.proofs.codes.side_from.Tie as tie
 

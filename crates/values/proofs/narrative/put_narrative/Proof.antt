@@ -4,9 +4,11 @@ use mathlib.Core.Path.{_≡_, refl, ap, _∙_}
 use native.Mathlib.Omega.{arith}
 use lib.ListN.{length, take, length-take}
 use Rattle.text.specs.Bytes.{bytes}
-use Rattle.values.specs.Values.{reasonText, narrative}
+use Rattle.reason.specs.Reason.{reasonText}
+use Rattle.reason.proofs.Laws.{reason-room}
+use Rattle.values.specs.Values.{narrative}
 use Rattle.values.proofs.Narratives.{period-short}
-use Rattle.values.proofs.Widths.{service-long, reason-short, behind-word, behind-period, behind-reason, whole, narrative-is}
+use Rattle.values.proofs.Widths.{service-long, behind-word, behind-reason, whole, narrative-is}
 use borrow.Author.Needs.{needs}
 use Rattle.values.proofs.narrative.put_narrative.Statement.{statement}
 use Rattle.values.proofs.narrative.put_narrative.Tie as tie
@@ -17,15 +19,10 @@ nine c = ap length (c .service-text .ensures) ∙ service-long _
 short : (c : tie.After-slice-known) → length (reasonText (c .before .args .reason)) ≤ 25
 short c =
     let n : length (c .before .args .reason .bytes) ≡ 20 = search needs in
-    reason-short _ n
+    reason-room _ n
 
 first : (c : tie.After-put) → c .put .result ≡ 9
 first c = behind-word _ _ refl (nine (c .before .before .before)) (c .put .ensures)
-
-second : (c : tie.After-put-period) → c .put-period .result ≤ 15
-second c =
-    let p = c .before .before .before in
-    behind-period _ _ refl (nine (p .before .before .before)) (p .put .ensures) _ (period-short _) (c .put-period .ensures)
 
 service-text-requires : tie.Need-service-text-requires
 service-text-requires c κs = search needs
@@ -33,20 +30,20 @@ service-text-requires c κs = search needs
 slice-aggregate-put : tie.Need-slice-aggregate-put
 slice-aggregate-put c = search needs
 
-third : (c : tie.After-put-reason) → c .put-reason .result ≤ 40
+third : (c : tie.After-put2) → c .put2 .result ≤ 40
 third c =
     let q = c .before .before .before in
     let p = q .before .before .before in
-    behind-reason _ _ refl (nine (p .before .before .before)) (p .put .ensures) _ (period-short _) (q .put-period .ensures) _ (short (p .before .before .before .before)) (c .put-reason .ensures)
+    behind-reason _ _ refl (nine (p .before .before .before)) (p .put .ensures) _ (period-short _) (q .put-period .ensures) _ (short (p .before .before .before .before)) (c .put2 .ensures)
 
 -- what then stands in front is the narrative
-told : (c : tie.After-put-reason) → take (c .put-reason .result) (c .put-reason .last .0)
+told : (c : tie.After-put2) → take (c .put2 .result) (c .put2 .last .0)
     ≡ narrative (c .before .before .before .before .before .before .before .before .before .before .before .args .service) (c .before .before .before .before .before .before .before .before .before .before .before .args .period) (c .before .before .before .before .before .before .before .before .before .before .before .args .reason)
 told c =
     let q = c .before .before .before in
     let p = q .before .before .before in
     let w = p .before .before .before in
-    whole _ _ refl (nine w) (p .put .ensures) _ (period-short _) (q .put-period .ensures) _ (short (w .before)) (c .put-reason .ensures)
+    whole _ _ refl (nine w) (p .put .ensures) _ (period-short _) (q .put-period .ensures) _ (short (w .before)) (c .put2 .ensures)
     ∙ narrative-is _ _ _ _ (w .service-text .ensures)
 
 slice-aggregate-put-2 : tie.Need-slice-aggregate-put-2
@@ -61,20 +58,20 @@ slice-aggregate-put-period c = search needs
 put-period-requires : tie.Need-put-period-requires
 put-period-requires c κs = omega (arith, first (c .before .before))
 
-slice-aggregate-put-reason : tie.Need-slice-aggregate-put-reason
-slice-aggregate-put-reason c = search needs
+slice-aggregate-put-3 : tie.Need-slice-aggregate-put-3
+slice-aggregate-put-3 c = search needs
 
-put-reason-requires : tie.Need-put-reason-requires
-put-reason-requires c κs = omega (arith, second (c .before .before))
+put-requires-2 : tie.Need-put-requires-2
+put-requires-2 c κs = search needs
 
 array-share-prefix-line : tie.Need-array-share-prefix-line
 array-share-prefix-line c = omega (arith, third (c .before .before))
 
-slice-aggregate-put-3 : tie.Need-slice-aggregate-put-3
-slice-aggregate-put-3 c = let h = third (c .before .before .before) in rw length-take (omega arith)
+slice-aggregate-put-4 : tie.Need-slice-aggregate-put-4
+slice-aggregate-put-4 c = let h = third (c .before .before .before) in rw length-take (omega arith)
 
-put-requires-2 : tie.Need-put-requires-2
-put-requires-2 c κs = search needs
+put-requires-3 : tie.Need-put-requires-3
+put-requires-3 c κs = search needs
 
 same-length : tie.Need-same-length
 same-length c = search needs
@@ -83,7 +80,7 @@ returns : tie.Need-returns
 returns c =
     let k = c .before .before .before .before .before .before in
     let h = third k in
-    let e = c .before .before .put2 .ensures in
+    let e = c .before .before .put3 .ensures in
     rw (← told k) (e .0, e .1, rw length-take (omega arith))
 
 pub put-narrative-spec : {M : Type 1} → statement M
@@ -96,10 +93,10 @@ put-narrative-spec =
     put-requires
     slice-aggregate-put-period
     put-period-requires
-    slice-aggregate-put-reason
-    put-reason-requires
-    array-share-prefix-line
     slice-aggregate-put-3
     put-requires-2
+    array-share-prefix-line
+    slice-aggregate-put-4
+    put-requires-3
     same-length
     returns)

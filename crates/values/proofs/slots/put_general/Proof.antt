@@ -3,7 +3,8 @@ use mathlib.Core.Path.{refl}
 use mathlib.Core.List.{[], _∷_}
 use Rattle.values.specs.Values.{values}
 use Rattle.fill.proofs.Places.{kept, behind, stored, more}
-use Rattle.values.proofs.Widths.{moment-most, word-most, function-four}
+use Rattle.typed.proofs.Widths.{moment-most, word-most}
+use Rattle.values.proofs.Widths.{function-four}
 use borrow.Author.Needs.{needs}
 use Rattle.values.proofs.slots.put_general.Statement.{statement}
 use Rattle.values.proofs.slots.put_general.Tie as tie

@@ -2,7 +2,7 @@
 use mathlib.Core.List.{[], _∷_}
 use Rattle.values.specs.Values.{values}
 use Rattle.fill.proofs.Places.{kept, behind, stored}
-use Rattle.values.proofs.Widths.{amount-most}
+use Rattle.typed.proofs.Widths.{amount-most}
 use borrow.Author.Needs.{needs}
 use Rattle.values.proofs.slots.put_security.Statement.{statement}
 use Rattle.values.proofs.slots.put_security.Tie as tie
