@@ -1,0 +1,3 @@
+pub mod Laws
+pub mod CodeWords
+pub mod Cases

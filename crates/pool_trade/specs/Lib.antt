@@ -1,0 +1,4 @@
+pub mod Narrative
+pub mod Records
+pub mod Parts
+pub mod Cases

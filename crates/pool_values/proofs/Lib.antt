@@ -1,0 +1,5 @@
+pub mod Narratives
+pub mod Laid
+pub mod Laws
+pub mod Widths
+pub mod Cases

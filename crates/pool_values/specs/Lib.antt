@@ -1,0 +1,4 @@
+pub mod Values
+pub mod Writable
+pub mod Pool
+pub mod Cases
