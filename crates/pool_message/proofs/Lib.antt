@@ -1,0 +1,3 @@
+pub mod Lengths
+pub mod Writes
+pub mod Cases
