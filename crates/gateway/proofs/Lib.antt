@@ -1,2 +1,4 @@
 pub mod Numbers
 pub mod Handing
+pub mod PoolNumbers
+pub mod PoolHanding

@@ -3,19 +3,16 @@
 use Prim.Native.Nat.{ℕ, _≤_}
 use native.Mathlib.Omega.{arith}
 use mathlib.Core.Path.{refl}
-use mathlib.Core.Bool.{not}
-use mathlib.Core.List.{List}
-use lib.Dec.{eqb}
+use mathlib.Core.List.{List, [], _∷_}
 use lib.ListN.{drop}
-use Rattle.text.specs.Bytes.{same}
-use Rattle.lines.specs.Verdicts.{when}
+use Rattle.lines.proofs.Rules.{chained, numbered, chained-few}
 use Rattle.pieces.specs.Pieces.{pieceOf}
 use Rattle.pieces.specs.Calls.{turnOf}
 use Rattle.pieces.specs.declared.Turn.{Turn}
 use Rattle.format.specs.Reading as Any
-use Rattle.format.proofs.Numbers.{few, Few, then-few, when-few, read-few, plain-few, write-few}
+use Rattle.format.proofs.Numbers.{few, Few, then-few, read-few, plain-few, write-few}
 use Rattle.trade.specs.declared.Trade.{Trade}
-use Rattle.kinds.specs.Kinds.{functionOf, lacksField, hasForbidden, recordPass, kindsPass}
+use Rattle.kinds.specs.Kinds.{recordPass, kindsPass}
 use Rattle.values.specs.Mt515.{mt515}
 use Rattle.mt515.specs.Reading.{verdictOf, readOf}
 use Rattle.batch.specs.Batch.{blankReading, saysOf, nextOf}
@@ -23,19 +20,13 @@ use Rattle.gateway.specs.Numbers.{Numbers}
 
 -- ---- 13 to 17, and 20
 
-record-few : (t : Trade) → Few 17 (recordPass t)
-unfolding recordPass
-record-few t =
-    then-few 17 (when (lacksField (t .kind) t) 14) _ (when-few _ 14 17 (few _ _ refl))
-    (then-few 17 (when (hasForbidden (t .kind) t) 15) _ (when-few _ 15 17 (few _ _ refl))
-    (then-few 17 (when (eqb (t .par .0 .number) 0) 16) _ (when-few _ 16 17 (few _ _ refl)) (when-few _ 17 17 (few _ _ refl))))
-
 kinds-few : (function : List ℕ) (t : Trade) → Few 17 (kindsPass function t)
-unfolding kindsPass
-kinds-few function t = then-few 17 (when (not (same (functionOf (t .kind)) function)) 13) _ (when-few _ 13 17 (few _ _ refl)) (record-few t)
+unfolding kindsPass recordPass chained numbered
+kinds-few function t = chained-few 17 ((_, 13) ∷ (_, 14) ∷ (_, 15) ∷ (_, 16) ∷ (_, 17) ∷ []) refl
 
 rules-few : (t : Trade) → Few 20 (mt515 .writeRules t)
-rules-few t = then-few 20 (recordPass t) _ (let h = record-few t in omega (arith, h)) (when-few _ 20 20 (few _ _ refl))
+unfolding recordPass chained numbered
+rules-few t = then-few 20 _ _ (chained-few 20 ((_, 14) ∷ (_, 15) ∷ (_, 16) ∷ (_, 17) ∷ []) refl) (chained-few 20 ((_, 20) ∷ []) refl)
 
 -- ---- and all answers
 

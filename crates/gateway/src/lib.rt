@@ -2,6 +2,8 @@
 // them.
 //
 // What is right stands in the specs of the functions that the entries call; an entry only hands their answer out.
+mod netting;
+
 use pieces::Turn;
 ghost use mathlib.Core.Path.{_≡_};
 ghost use lib.ListN.{length};
