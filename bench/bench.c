@@ -4,7 +4,7 @@
 #define _POSIX_C_SOURCE 199309L
 
 #include "messages.h"
-#include "mt515.h"
+#include "pool.h"
 #include "second.h"
 
 #include <stdlib.h>
@@ -13,7 +13,7 @@
 
 enum { MOST_RUNS = 1001 };
 
-static struct messages messages, refused;
+static struct messages messages, refused, pool;
 static uint8_t records[MESSAGES][MT515_RECORD];     /* of the messages, for writing */
 static struct record second_records[MESSAGES];
 static uint8_t out[MT515_LONGEST], second_out[MT515_LONGEST];
@@ -74,6 +74,32 @@ static void compare_refused(size_t i)
         printf("message %zu was to be refused, and is accepted\n", i);
         exit(1);
     }
+}
+
+/* Of a message of the pool: number and line, where all fields stand, each field by itself, the plain form. */
+static void compare_pool(size_t i)
+{
+    const uint8_t *at = message_in(&pool, i);
+    size_t length = length_in(&pool, i), starts[POOL_FIELDS], ends[POOL_FIELDS], line, written;
+    struct pool_record record;
+    struct stretch fields[MOST_FIELDS + 3];
+    uint8_t number = pool_read(at, length, starts, ends, &line);
+    struct answer a = second_read_by(&second_pool, at, length, &record);
+    demand(number == ACCEPTED && a.number == ACCEPTED && line == a.line, i, "reading, in the pool");
+
+    second_fields_by(&second_pool, at, length, fields);
+    for (size_t f = 0; f < POOL_FIELDS; f++)
+        demand(starts[f] == fields[f].offset && ends[f] == fields[f].offset + fields[f].length, i, "a place, in the pool");
+    for (size_t slot = 0; slot <= FIELDS_OF_POOL + 1; slot++) {
+        size_t offset, count;
+        number = pool_field(at, length, slot, &offset, &count);
+        struct stretch s = second_field_by(&second_pool, at, length, slot);
+        demand(number == ACCEPTED && offset == s.offset && count == s.length, i, "a field, in the pool");
+    }
+
+    number = pool_plain(at, length, out, sizeof out, &line, &written);
+    struct written w = second_plain_by(&second_pool, at, length, second_out, sizeof second_out);
+    demand(number == w.number && written == w.length && memcmp(out, second_out, written) == 0, i, "the plain form, in the pool");
 }
 
 /* ---------------------------------------------------------------- what is measured */
@@ -200,6 +226,50 @@ static uint64_t second_program_next(size_t step)
     return sum;
 }
 
+/* Where all fields of the pool's messages stand; the sum has those that stand first and last, and one that some do not have. */
+static uint64_t first_pool_read(size_t step)
+{
+    uint64_t sum = step;
+    for (size_t i = 0; i < MESSAGES; i++) {
+        size_t starts[POOL_FIELDS], ends[POOL_FIELDS], line;
+        uint8_t number = pool_read(message_in(&pool, i), length_in(&pool, i), starts, ends, &line);
+        sum = add(sum, number + line + starts[POOL_FIELD_SENDER] + starts[POOL_FIELD_MAST], ends[POOL_FIELD_NARRATIVE]);
+    }
+    return sum;
+}
+
+static uint64_t second_program_pool_read(size_t step)
+{
+    uint64_t sum = step;
+    for (size_t i = 0; i < MESSAGES; i++) {
+        struct stretch f[MOST_FIELDS + 3];
+        second_fields_by(&second_pool, message_in(&pool, i), length_in(&pool, i), f);
+        sum = add(sum, f[POOL_FIELD_SENDER].offset + f[POOL_FIELD_MAST].offset, f[POOL_FIELD_NARRATIVE].offset + f[POOL_FIELD_NARRATIVE].length);
+    }
+    return sum;
+}
+
+static uint64_t first_pool_plain(size_t step)
+{
+    uint64_t sum = step;
+    for (size_t i = 0; i < MESSAGES; i++) {
+        size_t line, written;
+        uint8_t number = pool_plain(message_in(&pool, i), length_in(&pool, i), out, sizeof out, &line, &written);
+        sum = add(sum, number + line + written, out[written / 2]);
+    }
+    return sum;
+}
+
+static uint64_t second_program_pool_plain(size_t step)
+{
+    uint64_t sum = step;
+    for (size_t i = 0; i < MESSAGES; i++) {
+        struct written w = second_plain_by(&second_pool, message_in(&pool, i), length_in(&pool, i), out, sizeof out);
+        sum = add(sum, (uint64_t)w.number + w.line + w.length, out[w.length / 2]);
+    }
+    return sum;
+}
+
 /* The limit: every byte looked at once, by the C library's search for LF. */
 static uint64_t sweep(size_t step)
 {
@@ -221,7 +291,7 @@ static struct row {
     const char *name;
     work *first, *second;
     size_t step;
-    const struct messages *in;      /* where they are not the accepted ones */
+    const struct messages *in;      /* where they are not the MT515's accepted ones */
     uint64_t sum;
     double times[MOST_RUNS], second_times[MOST_RUNS];
 } rows[] = {
@@ -234,6 +304,8 @@ static struct row {
     { .name = "batches of 10", .first = first_next, .second = second_program_next, .step = 10 },
     { .name = "batches of 100", .first = first_next, .second = second_program_next, .step = 100 },
     { .name = "one batch of 1,000", .first = first_next, .second = second_program_next, .step = 1000 },
+    { .name = "pool: reading", .first = first_pool_read, .second = second_program_pool_read, .in = &pool },
+    { .name = "pool: plain form", .first = first_pool_plain, .second = second_program_pool_plain, .in = &pool },
     { .name = "memchr for LF, the limit", .first = sweep },
 };
 
@@ -311,9 +383,11 @@ int main(int count, char **words)
     }
     make_messages(&messages, seed);
     make_refused(&refused, &messages, seed);
+    make_pool_messages(&pool, seed);
     for (size_t i = 0; i < MESSAGES; i++) {
         compare(i);
         compare_refused(i);
+        compare_pool(i);
     }
     for (size_t i = 0; i < ROWS; i++)
         rows[i].sum = rows[i].first(rows[i].step);
@@ -321,7 +395,8 @@ int main(int count, char **words)
         for (size_t i = 0; i < ROWS; i++)
             measure(&rows[i], run);
 
-    printf("%d messages, %zu bytes, seed %llu: the answers are alike\n", MESSAGES, messages.start[MESSAGES], seed);
+    printf("%d messages, %zu bytes, and %d of the pool, %zu bytes, seed %llu: the answers are alike\n", MESSAGES,
+           messages.start[MESSAGES], MESSAGES, pool.start[MESSAGES], seed);
     printf("median of %zu runs over all messages, the programs in turn; caches warm, buffers not cleared between calls\n\n", runs);
     printf("%-26s %17s %19s\n", "", "the project", "second program");
     printf("%-26s %8s %8s %10s %8s %9s\n", "", "ns/msg", "MB/s", "ns/msg", "MB/s", "ratio");

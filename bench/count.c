@@ -1,7 +1,7 @@
 /* count.c: reads one message with the project and the second program, and then calls an entry of one of them so many times, so that
  * `bench/count` can tell what a call costs from the instructions of two runs. The message comes from standard input.
  * Usage: count ENTRY TIMES, TIMES being one digit */
-#include "mt515.h"
+#include "pool.h"
 #include "second.h"
 
 #include <string.h>
@@ -10,7 +10,7 @@ static uint8_t message[4096], out[MT515_LONGEST], record[MT515_RECORD];
 static struct record second_record;
 static size_t length;
 
-/* Each answers the number, which is 0 of the message B. */
+/* Each answers the number, or whether there is no answer: 0 of the message B, in the pool of the message P. */
 
 static int first_read(void)
 {
@@ -46,11 +46,32 @@ static int first_write(void)
     return mt515_write(record, out, sizeof out, &written);
 }
 
+static int first_pool_read(void)
+{
+    size_t starts[POOL_FIELDS], ends[POOL_FIELDS], line;
+    return pool_read(message, length, starts, ends, &line);
+}
+
+static int first_pool_plain(void)
+{
+    size_t line, written;
+    return pool_plain(message, length, out, sizeof out, &line, &written);
+}
+
 static int second_program_read(void) { return second_read(message, length, &second_record).number; }
 static int second_program_plain(void) { return second_plain(message, length, out, sizeof out).number; }
 static int second_program_field(void) { return second_field(message, length, MT515_SLOT_NARRATIVE).length == 0; }
 static int second_program_write(void) { return second_write(&second_record, out, sizeof out).number; }
 static int second_program_next(void) { return second_next(message, length, 0, &second_record).answer.number; }
+static int second_program_pool_plain(void) { return second_plain_by(&second_pool, message, length, out, sizeof out).number; }
+
+/* Where all fields stand, as pool_read tells it. */
+static int second_program_pool_read(void)
+{
+    struct stretch fields[MOST_FIELDS + 3];
+    second_fields_by(&second_pool, message, length, fields);
+    return fields[POOL_FIELD_SEME].length == 0;
+}
 
 static const struct {
     const char *name;
@@ -60,6 +81,8 @@ static const struct {
     { "mt515_write", first_write },
     { "second_read", second_program_read }, { "second_plain", second_program_plain }, { "second_field", second_program_field },
     { "second_next", second_program_next }, { "second_write", second_program_write },
+    { "pool_read", first_pool_read }, { "pool_plain", first_pool_plain },
+    { "second_pool_read", second_program_pool_read }, { "second_pool_plain", second_program_pool_plain },
 };
 
 int main(int count, char **words)
@@ -72,7 +95,7 @@ int main(int count, char **words)
         return 2;
     }
     length = fread(message, 1, sizeof message, stdin);
-    int refused = first_read() | second_program_read();
+    int refused = strstr(words[1], "pool_") ? first_pool_read() | second_program_pool_read() : first_read() | second_program_read();
     for (int times = words[2][0] - '0'; times > 0; times--)
         refused |= entries[which].call();
     if (refused)

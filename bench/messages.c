@@ -1,15 +1,18 @@
-/* messages.c: see messages.h. A message is put down line by line, in the order of document 01's table. */
+/* messages.c: see messages.h. A message is put down line by line, in the order of document 01's table, one of the pool in that of
+ * request A1's. What both have is written as the MT515 has it. */
 #include "messages.h"
 
 #include <stdbool.h>
 #include <string.h>
 
-enum kind { INST, CANC, MDFC, TDDK };
+/* The last two are the pool's alone. */
+enum kind { INST, CANC, MDFC, TDDK, CDRQ, CDRL };
 
 /* What is being written, and how. */
 struct pen {
     uint8_t *at;
     uint64_t state;                  /* of the random numbers */
+    bool pool;                       /* whether it is a message of the pool */
     enum kind kind;
     bool wide, crlf, turned;
 };
@@ -25,10 +28,14 @@ static unsigned below(struct pen *pen, unsigned limit)
     return (unsigned)((pen->state * 0x2545F4914F6CDD1Du) >> 33) % limit;
 }
 
+/* A message of the pool has DTCY where the MT515 has GSCC. */
 static void put(struct pen *pen, const char *text)
 {
     size_t length = strlen(text);
+    const char *house = pen->pool ? strstr(text, "GSCC") : NULL;
     memcpy(pen->at, text, length);
+    if (house)
+        memcpy(pen->at + (house - text), "DTCY", 4);
     pen->at += length;
 }
 
@@ -109,7 +116,7 @@ static void header(struct pen *pen)
     text_line(pen, "", 0, 12);
     text_line(pen, "", 4, 8);
     line(pen, "515/000/GSCC");
-    line(pen, "MBSCTRRS");
+    line(pen, pen->pool ? "MBSCPNET" : "MBSCTRRS");
 }
 
 static void link_block(struct pen *pen, const char *fixed)
@@ -119,13 +126,15 @@ static void link_block(struct pen *pen, const char *fixed)
     line(pen, ":16S:LINK");
 }
 
+/* By kind: m for must, o for may, which a wide message has. */
 static void links(struct pen *pen)
 {
     static const char *const fixed[] = { ":20C::MAST//", ":20C::PREV//", ":20C::LIST//" };
-    bool has[] = { pen->kind != TDDK, pen->wide && pen->kind == MDFC, pen->wide && (pen->kind == CANC || pen->kind == MDFC) };
+    static const char *const ours[] = { "mmm-", "--o-", "-oo-" }, *const pools[] = { "mmmomm", "-oo---", "-oo-oo" };
     for (int i = 0; i < 3; i++) {
         int link = pen->turned ? 2 - i : i;
-        if (has[link])
+        char rule = (pen->pool ? pools : ours)[link][pen->kind];
+        if (rule == 'm' || (rule == 'o' && pen->wide))
             link_block(pen, fixed[link]);
     }
 }
@@ -135,7 +144,7 @@ static void general(struct pen *pen)
     line(pen, ":16R:GENL");
     text_line(pen, ":20C::SEME//", 8, 16);
     line(pen, pen->kind == CANC ? ":23G:CANC" : ":23G:NEWM");
-    if (pen->wide)
+    if (pen->wide && !pen->pool)
         moment_line(pen, ":98C::PREP//20240301");
     line(pen, ":22F::TRTR/GSCC/CASH");
     links(pen);
@@ -149,28 +158,48 @@ static void party(struct pen *pen, bool seller)
     text_line(pen, seller ? ":95R::SELL/GSCC/PART" : ":95R::BUYR/GSCC/PART", 4, 4);
     if (seller && pen->kind == TDDK)
         text_line(pen, ":20C::PROC//", 10, 16);
-    if (pen->wide)
+    if (pen->wide && !pen->pool)
         text_line(pen, ":70C::PACO//GSCC/TDID", 0, 20);
     line(pen, ":16S:CONFPRTY");
 }
 
-static void pool(struct pen *pen)
+static void pool_block(struct pen *pen)
 {
     line(pen, ":16R:FIA");
     text_line(pen, ":13B::POOL/GSCC/", 0, 9);
     line(pen, ":16S:FIA");
 }
 
+static void put_service(struct pen *pen)
+{
+    put(pen, below(pen, 2) ? "TFTD" : "STIP");
+    if (pen->wide && pen->kind != TDDK) {
+        put(pen, "/GUPP");
+        put_digits(pen, 1);
+    }
+}
+
+static void put_pool_service(struct pen *pen)
+{
+    put(pen, "POOL");
+    if (pen->wide && pen->kind != TDDK)
+        put(pen, "/CDRY");
+    if (pen->wide) {
+        put(pen, "/DDTE202403");
+        put_part(pen, 1, 31);
+    }
+}
+
 static void narrative(struct pen *pen)
 {
     put(pen, ":70E::TPRO//GSCC/TDSV");
-    put(pen, below(pen, 2) ? "TFTD" : "STIP");
+    if (pen->pool)
+        put_pool_service(pen);
+    else
+        put_service(pen);
     if (pen->kind == TDDK) {
         put(pen, "/DKRS");
         put_c(pen, 4);
-    } else if (pen->wide) {
-        put(pen, "/GUPP");
-        put_digits(pen, 1);
     }
     end_line(pen);
 }
@@ -178,13 +207,16 @@ static void narrative(struct pen *pen)
 static void details(struct pen *pen)
 {
     static const char *const kind_lines[] = {
-        ":22F::PROC/GSCC/INST", ":22F::PROC/GSCC/CANC", ":22F::PROC/GSCC/MDFC", ":22F::PROC/GSCC/TDDK" };
+        ":22F::PROC/GSCC/INST", ":22F::PROC/GSCC/CANC", ":22F::PROC/GSCC/MDFC", ":22F::PROC/GSCC/TDDK", ":22F::PROC/GSCC/CDRQ",
+        ":22F::PROC/GSCC/CDRL" };
     line(pen, ":16R:CONFDET");
     moment_line(pen, ":98C::TRAD//20240229");
     put(pen, ":98A::SETT//202403");
     put_part(pen, 1, 31);
     end_line(pen);
     amount_line(pen, ":90A::DEAL//PRCT/", pen->wide ? 1 : 2, pen->wide ? 13 : 3);
+    if (pen->wide && pen->pool)
+        amount_line(pen, ":19A::SETT//USD", 12, 2);
     line(pen, ":22H::BUSE//BUYI");
     line(pen, kind_lines[pen->kind]);
     line(pen, ":22H::PAYM//APMT");
@@ -193,7 +225,7 @@ static void details(struct pen *pen)
     amount_line(pen, ":36B::CONF//FAMT/", pen->wide ? 14 : 7, 0);
     text_line(pen, ":35B:/US/", 9, 9);
     if (pen->wide)
-        pool(pen);
+        pool_block(pen);
     narrative(pen);
     line(pen, ":16S:CONFDET");
 }
@@ -201,15 +233,16 @@ static void details(struct pen *pen)
 /* What message number so many is like. */
 static void turn(struct pen *pen, size_t number)
 {
-    pen->kind = (enum kind)(number % 4);
-    pen->wide = number / 4 % 2 == 1;
-    pen->crlf = number / 8 % 2 == 1;
-    pen->turned = number / 16 % 2 == 1;
+    size_t kinds = pen->pool ? 6 : 4;
+    pen->kind = (enum kind)(number % kinds);
+    pen->wide = number / kinds % 2 == 1;
+    pen->crlf = number / kinds / 2 % 2 == 1;
+    pen->turned = number / kinds / 4 % 2 == 1;
 }
 
-void make_messages(struct messages *messages, uint64_t seed)
+static void make(struct messages *messages, uint64_t seed, bool pool)
 {
-    struct pen pen = { .at = messages->batch, .state = seed * 2 + 1 };
+    struct pen pen = { .at = messages->batch, .state = seed * 2 + 1, .pool = pool };
     for (size_t i = 0; i < MESSAGES; i++) {
         messages->start[i] = (size_t)(pen.at - messages->batch);
         turn(&pen, i);
@@ -220,6 +253,9 @@ void make_messages(struct messages *messages, uint64_t seed)
     }
     messages->start[MESSAGES] = (size_t)(pen.at - messages->batch);
 }
+
+void make_messages(struct messages *messages, uint64_t seed) { make(messages, seed, false); }
+void make_pool_messages(struct messages *messages, uint64_t seed) { make(messages, seed, true); }
 
 /* ---------------------------------------------------------------- faults
  * Each is put into the message that runs from `from` to where the pen stands. No fault makes it longer. */

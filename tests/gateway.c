@@ -2,47 +2,10 @@
  * What is lent stands between guard bytes, and a message ends just before a page that may not be touched. Says what it tried;
  * the last line says how it went. */
 #define _DEFAULT_SOURCE
+#include "lent.h"
 #include "mt515.h"
 
-#include <stdbool.h>
-#include <stdio.h>
-#include <stdlib.h>
-#include <string.h>
-#include <sys/mman.h>
-
 /* ---------------------------------------------------------------- messages */
-
-static const char B[] =
-    "\n"
-    "0017\n"
-    "515/000/GSCC\n"
-    "MBSCTRRS\n"
-    ":16R:GENL\n"
-    ":20C::SEME//0008\n"
-    ":23G:NEWM\n"
-    ":22F::TRTR/GSCC/CASH\n"
-    ":16R:LINK\n"
-    ":20C::MAST//0017\n"
-    ":16S:LINK\n"
-    ":16S:GENL\n"
-    ":16R:CONFDET\n"
-    ":98C::TRAD//20240229093000\n"
-    ":98A::SETT//20240313\n"
-    ":90A::DEAL//PRCT/99,50\n"
-    ":22H::BUSE//BUYI\n"
-    ":22F::PROC/GSCC/INST\n"
-    ":22H::PAYM//APMT\n"
-    ":16R:CONFPRTY\n"
-    ":95R::SELL/GSCC/PART0015\n"
-    ":16S:CONFPRTY\n"
-    ":16R:CONFPRTY\n"
-    ":95R::BUYR/GSCC/PART0017\n"
-    ":16S:CONFPRTY\n"
-    ":36B::CONF//FAMT/0001000000,\n"
-    ":35B:/US/01F070633\n"
-    ":70E::TPRO//GSCC/TDSVSTIP\n"
-    ":16S:CONFDET\n"
-    "-\n";
 
 /* B by the four rules: CR LF, the buyer's block first, no needless noughts in the price and in the par. */
 static const char B_PLAIN[] =
@@ -181,66 +144,10 @@ static const char DK[] =
     ":16S:CONFDET\n"
     "-\n";
 
-/* ---------------------------------------------------------------- what was tried, and how it went */
+/* ---------------------------------------------------------------- the entries, each called between guards */
 
-static unsigned tried, failed;
-
-static void want(bool holds, const char *what, size_t at)
-{
-    tried++;
-    if (holds)
-        return;
-    failed++;
-    if (failed <= 20)
-        printf("FAILED: %s (at %zu)\n", what, at);
-}
-
-static void heading(const char *what)
-{
-    printf("%s\n", what);
-    fflush(stdout);
-}
-
-/* ---------------------------------------------------------------- what is lent */
-
-enum { GUARD = 64, MARK = 0xA5, PAGE = 4096, LENDABLE = 3 * PAGE, BUFFER = 1000 };
-
-static bool all(const uint8_t *bytes, size_t length, uint8_t value)
-{
-    for (size_t i = 0; i < length; i++)
-        if (bytes[i] != value)
-            return false;
-    return true;
-}
-
-/* A buffer between guards. */
-struct buffer { uint8_t before[GUARD], bytes[BUFFER], behind[GUARD]; };
-struct number { uint8_t before[GUARD]; size_t value; uint8_t behind[GUARD]; };
-struct byte { uint8_t before[GUARD], value, behind[GUARD]; };
 struct record { uint8_t before[GUARD], bytes[MT515_RECORD], behind[GUARD]; };
 struct places { uint8_t before[GUARD]; size_t of[MT515_FIELDS]; uint8_t behind[GUARD]; };
-
-#define MARKED(lent) memset(&(lent), MARK, sizeof (lent))
-#define GUARDED(lent, at) \
-    want(all((lent).before, GUARD, MARK) && all((lent).behind, GUARD, MARK), "a guard of " #lent " was changed", at)
-
-/* The message, copied so that it ends just before a page that may not be touched. */
-static const uint8_t *lend(const void *bytes, size_t length)
-{
-    static uint8_t *fence;
-    if (!fence) {
-        uint8_t *pages = mmap(NULL, LENDABLE + PAGE, PROT_READ | PROT_WRITE, MAP_PRIVATE | MAP_ANONYMOUS, -1, 0);
-        if (pages == MAP_FAILED || mprotect(pages + LENDABLE, PAGE, PROT_NONE) != 0) {
-            puts("no pages to lend");
-            exit(2);
-        }
-        fence = pages + LENDABLE;
-    }
-    memcpy(fence - length, bytes, length);
-    return fence - length;
-}
-
-/* ---------------------------------------------------------------- the entries, each called between guards */
 
 struct read_answer { uint8_t number; size_t line; uint8_t record[MT515_RECORD]; };
 
@@ -255,7 +162,7 @@ static struct read_answer read_message(const void *message, size_t length)
     answer.number = mt515_read(lent, length, record.bytes, &line.value);
     GUARDED(record, length);
     GUARDED(line, length);
-    want(memcmp(lent, message, length) == 0, "read changed the message", length);
+    want(stands(lent, message, length), "read changed the message", length);
     answer.line = line.value;
     memcpy(answer.record, record.bytes, MT515_RECORD);
     return answer;
@@ -272,7 +179,7 @@ static struct field_answer field_of(const void *message, size_t length, size_t s
     uint8_t number = mt515_field(lent, length, slot, &offset.value, &count.value);
     GUARDED(offset, slot);
     GUARDED(count, slot);
-    want(memcmp(lent, message, length) == 0, "field changed the message", slot);
+    want(stands(lent, message, length), "field changed the message", slot);
     return (struct field_answer){ number, offset.value, count.value };
 }
 
@@ -291,22 +198,11 @@ static struct places_answer places_of(const void *message, size_t length)
     GUARDED(starts, length);
     GUARDED(ends, length);
     GUARDED(line, length);
-    want(memcmp(lent, message, length) == 0, "places changed the message", length);
+    want(stands(lent, message, length), "places changed the message", length);
     answer.line = line.value;
     memcpy(answer.starts, starts.of, sizeof answer.starts);
     memcpy(answer.ends, ends.of, sizeof answer.ends);
     return answer;
-}
-
-struct written { uint8_t number; size_t line, length; };
-
-/* What is lent of a buffer ends at the room: all behind it, and all of it beside a refusal, must stand. */
-static void untouched(const struct buffer *out, struct written w, size_t room)
-{
-    size_t from = w.number == MT515_ACCEPTED ? w.length : 0;
-    want(w.number == MT515_ACCEPTED || w.length == 0, "a length beside a refusal", room);
-    want(w.length <= room, "more was written than there is room", room);
-    want(from <= BUFFER && all(out->bytes + from, BUFFER - from, MARK), "a byte changed that must stand", room);
 }
 
 static struct written plain_of(const void *message, size_t length, struct buffer *out, size_t room)
@@ -320,7 +216,7 @@ static struct written plain_of(const void *message, size_t length, struct buffer
     GUARDED(*out, room);
     GUARDED(line, room);
     GUARDED(written, room);
-    want(memcmp(lent, message, length) == 0, "plain changed the message", room);
+    want(stands(lent, message, length), "plain changed the message", room);
     struct written w = { number, line.value, written.value };
     untouched(out, w, room);
     return w;
@@ -335,7 +231,7 @@ static struct written write_record(const uint8_t bytes[MT515_RECORD], struct buf
     uint8_t number = mt515_write(lent, out->bytes, room, &written.value);
     GUARDED(*out, room);
     GUARDED(written, room);
-    want(memcmp(lent, bytes, MT515_RECORD) == 0, "write changed the record", room);
+    want(stands(lent, bytes, MT515_RECORD), "write changed the record", room);
     struct written w = { number, 0, written.value };
     untouched(out, w, room);
     return w;
@@ -359,7 +255,7 @@ static struct next_answer next_of(const void *batch, size_t length, size_t posit
     GUARDED(line, position);
     GUARDED(next, position);
     GUARDED(number, position);
-    want(memcmp(lent, batch, length) == 0, "next changed the batch", position);
+    want(stands(lent, batch, length), "next changed the batch", position);
     answer.number = number.value;
     answer.line = line.value;
     answer.next = next.value;
@@ -368,15 +264,6 @@ static struct next_answer next_of(const void *batch, size_t length, size_t posit
 }
 
 /* ---------------------------------------------------------------- changes to B */
-
-/* The place of the first byte of a line of a message. */
-static size_t line_start(const char *message, size_t line)
-{
-    const char *at = message;
-    while (line-- > 1)
-        at = strchr(at, '\n') + 1;
-    return (size_t)(at - message);
-}
 
 /* B with one line, counted from 1, replaced by other text, which brings its own endings. */
 static size_t changed(char *out, size_t line, const char *text)
@@ -768,6 +655,19 @@ static void batch(void)
     next_wants("", 1, (struct next_answer){ MT515_BEYOND, MT515_PAST, 0, 1, { [3] = 255 } });
 }
 
+/* ---------------------------------------------------------------- the other profile */
+
+static void refuses_pool(void)
+{
+    heading("P, which the entries of pool.h accept: 4 at 3, read, in plain form, every slot, all fields and in a batch");
+    read_wants(P, sizeof P - 1, MT515_HEADER, 3, "P");
+    for (size_t slot = 1; slot <= MT515_SLOT_NARRATIVE; slot++) {
+        struct field_answer f = field_of(P, sizeof P - 1, slot);
+        want(f.number == MT515_HEADER && f.offset == 0 && f.count == 0, "P: a slot", slot);
+    }
+    next_wants(P, 0, (struct next_answer){ MT515_MESSAGE, MT515_HEADER, 3, sizeof P - 1, { [3] = 255 } });
+}
+
 int main(void)
 {
     places();
@@ -778,10 +678,6 @@ int main(void)
     rooms();
     records();
     batch();
-    if (failed > 0) {
-        printf("FAILED: %u of %u comparisons\n", failed, tried);
-        return 1;
-    }
-    printf("ok, the C entries answer as document 01 says: %u comparisons\n", tried);
-    return 0;
+    refuses_pool();
+    return verdict("the C entries answer as document 01 says");
 }

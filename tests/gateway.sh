@@ -1,17 +1,21 @@
 #!/bin/sh
-# The C entries, called by C programs that link the static library: tests/gateway.c, and the example, on the batch of a day.
+# The C entries, called by C programs that link the static library: tests/gateway.c and tests/pool.c, and the examples, each on its
+# batch. The desk's sheet is true of the pool's messages, and the desk's lister, which is the MT515's, refuses every one of them.
 set -eu
 cd "$(dirname "$0")/.."
 work=$(mktemp -d)
 trap 'rm -rf "$work"' EXIT
 
 library=$(bin/archive)
-bin/cc-x86 -o "$work/gateway" -std=c11 -Wall -Wextra -Werror -O2 -Iinclude tests/gateway.c "$library"
-bin/run-x86 "$work/gateway"
+for test in gateway pool; do
+    bin/cc-x86 -o "$work/$test" -std=c11 -Wall -Wextra -Werror -O2 -Iinclude "tests/$test.c" "$library"
+    bin/run-x86 "$work/$test"
+done
 
 # It keeps nothing between calls and takes no memory: it has no data that can change, and needs of C only what copies and fills.
 nm "$library" >"$work/names"
 grep -q ' T mt515_read$' "$work/names"
+grep -q ' T pool_read$' "$work/names"
 awk 'NF >= 2 && $(NF-1) ~ /^[BbCDdGgSsU]$/ && $NF !~ /^mem(cpy|move|set|cmp)$/ { print "the library has", $0; bad = 1 } END { exit bad }' "$work/names"
 echo 'the library has no data that can change, and calls nothing but memcpy and its like'
 
@@ -36,4 +40,67 @@ END
 examples/gateway.sh "$work/plain" "$work/again" >"$work/said"
 cmp "$work/plain" "$work/again"
 [ "$(grep -c 'number 0, line 0' "$work/said")" -eq 6 ]
-echo 'ok, the C entries and the example answer as they should'
+
+# The rows of the pool's example. Message 14 is an MT515.
+examples/pool.sh >"$work/rows"
+diff - "$work/rows" <<'END'
+MSG CODE LINE KIND MAST BUYR SELL MONEY
+1 0 0 INST 0017 0017 0015 0,00
+2 0 0 INST REF010 0017 0015 1004312,5
+3 0 0 INST 0018 0017 0015 -
+4 0 0 CANC 0017 0017 0015 0,00
+5 0 0 MDFC 0019 0017 0015 0002531640,20
+6 0 0 TDDK NONREF 0017 0015 -
+7 0 0 TDDK - 0017 A1B2 100000,
+8 0 0 CDRQ REF010 0017 0015 1004312,5
+9 0 0 CDRL REF010 0017 0015 0,
+10 12 32 - - - - -
+11 10 32 - - - - -
+12 11 17 - - - - -
+13 10 17 - - - - -
+14 4 3 - - - - -
+15 13 0 - - - - -
+16 14 0 - - - - -
+17 15 0 - - - - -
+18 8 8 - - - - -
+19 9 32 - - - - -
+20 17 0 - - - - -
+21 0 0 MDFC MASTER1234567890 0017 A1B2 00000000000000,
+END
+
+# The lister takes the MT515 among them, and gives 4 at 3 to all others.
+[ -x target/bin/lister ] || rt check lister </dev/null
+bin/run-x86 target/bin/lister <examples/pool.batch >"$work/list"
+awk 'NR == 1 { print "MSG CODE LINE KIND MAST BUYR SELL"; next } { print $1, $1 == 14 ? "0 0 INST 0017 0017 0015" : "4 3 - - - -" }' "$work/rows" |
+    diff - "$work/list"
+
+# Of the desk's sheet: the first block between ~~~ is P, and each later one a change to it, with `The pool's list says` behind it.
+# All changed messages are one batch, after P itself.
+python3 - "$work" <<'PYTHON'
+import re, sys
+sheet = open('docs/NUMBERS.md', encoding='utf-8').read()
+blocks = re.findall(r'^~~~\n(.*?)^~~~\n(?:\nThe pool\'s list says `(\d+ \d+)`)?', sheet, re.M | re.S)
+lines = {}
+for line in blocks[0][0].splitlines():
+    number, text = re.fullmatch(r' ?(\d+)(?:  (.*))?', line).groups()
+    lines[int(number)] = [text or '']
+P = [text[0] for text in lines.values()]
+assert P == open('examples/pool.batch').read().splitlines()[:34], 'the sheet has another message'
+with open(sys.argv[1] + '/sheet.batch', 'w') as batch, open(sys.argv[1] + '/sheet.want', 'w') as want:
+    batch.writelines(text + '\n' for text in P)
+    want.write('0 0\n')
+    for block, says in blocks[1:]:
+        assert says, 'nothing is said of ' + block
+        message = dict(lines)
+        for change in block.splitlines():
+            number, plus, text = re.fullmatch(r' ?(\d+)(?:(\+) ?|  )(.*)', change).groups()
+            number = int(number)
+            message[number] = message[number] + [text] if plus else [] if text == '(left out)' else [text]
+        batch.writelines(text + '\n' for number in sorted(message) for text in message[number])
+        want.write(says + '\n')
+PYTHON
+examples/pool.sh "$work/sheet.batch" | awk 'NR > 1 { print $2, $3 }' | diff "$work/sheet.want" - || {
+    echo 'of the pool the sheet < and its list > differ'
+    exit 1
+}
+echo "ok, the C entries and the examples answer as they should, and $(($(wc -l <"$work/sheet.want") - 1)) examples of the sheet in the pool"

@@ -1,4 +1,5 @@
-/* cases.c: see cases.h. A message is made as rows, a line each; near misses are changes to rows or to the bytes they give. */
+/* cases.c: see cases.h. A message is made as rows, a line each; near misses are changes to rows or to the bytes they give. Both
+ * profiles are made by the same code: where they differ, `pool` of a sheet tells. */
 #include "cases.h"
 
 #include <stdio.h>
@@ -38,7 +39,7 @@ enum { WIDEST_ROW = 120, MOST_ROWS = 160 };
 /* What a row is, so that a change can find it. */
 enum label {
     PASSWORD, SENDER, THIRD, FOURTH, GENL, SEME, FUNCTION, PREP, TRTR, LINK, MAST, PREV, LIST, LINK_END, GENL_END,
-    CONFDET, TRAD, SETT, DEAL, BUSE, PROC, PAYM, PARTY, BUYR, SELL, CONTRA, TDID, PARTY_END, PAR, CUSIP, FIA, POOL, FIA_END,
+    CONFDET, TRAD, SETT, DEAL, MONEY, BUSE, PROC, PAYM, PARTY, BUYR, SELL, CONTRA, TDID, PARTY_END, PAR, CUSIP, FIA, POOL, FIA_END,
     NARRATIVE, CONFDET_END, END, OTHER
 };
 
@@ -49,6 +50,7 @@ struct row {
 
 struct sheet {
     struct chance *chance;
+    bool pool;
     size_t count;
     struct row rows[MOST_ROWS];
 };
@@ -74,26 +76,40 @@ static void squeeze(char text[WIDEST_ROW], size_t at, char byte)
     text[at] = byte;
 }
 
-static void put(struct row *row, enum label label, const char *before, const char *value)
+/* One house's word for another's, wherever it stands. */
+static void rename_house(char *text, const char *from, const char *to)
+{
+    while ((text = strstr(text, from)))
+        memcpy(text, to, strlen(to));
+}
+
+/* What is written here says GSCC, for which a row of the pool says DTCY. */
+static struct row row_of(const struct sheet *s, enum label label, const char *before, const char *value)
 {
     struct row made;
     paste(made.text, sizeof made.text, before, value);
     made.label = label;
-    *row = made;
+    if (s->pool)
+        rename_house(made.text, "GSCC", "DTCY");
+    return made;
+}
+
+static void put(struct sheet *s, size_t at, enum label label, const char *before, const char *value)
+{
+    s->rows[at] = row_of(s, label, before, value);
 }
 
 static void add(struct sheet *s, enum label label, const char *before, const char *value)
 {
-    put(&s->rows[s->count++], label, before, value);
+    put(s, s->count++, label, before, value);
 }
 
 /* A row put in before another; where the sheet is full nothing is. */
 static void insert(struct sheet *s, size_t at, enum label label, const char *before, const char *value)
 {
-    struct row row;
+    struct row row = row_of(s, label, before, value);
     if (s->count == MOST_ROWS)
         return;
-    put(&row, label, before, value);
     memmove(&s->rows[at + 1], &s->rows[at], (s->count - at) * sizeof s->rows[0]);
     s->count++;
     s->rows[at] = row;
@@ -126,7 +142,7 @@ static void set(struct sheet *s, enum label label, const char *before, const cha
 {
     size_t at = find(s, label);
     if (at < s->count)
-        put(&s->rows[at], label, before, value);
+        put(s, at, label, before, value);
 }
 
 /* Any row behind the header, `-` too. */
@@ -135,9 +151,13 @@ static size_t any_row(struct sheet *s) { return s->count <= 4 ? below(s->chance,
 /* ---------------------------------------------------------------- values */
 
 static const char letters[] = "ABCDEFGHIJKLMNOPQRSTUVWXYZ0123456789000";
-static const char *const kinds[] = { "INST", "CANC", "MDFC", "TDDK" };
+static const char *const kinds[] = { "INST", "CANC", "MDFC", "TDDK", "CDRQ", "CDRL" };
 static const char *const sides[] = { "BUYI", "SELL" };
 static const char *const services[] = { "SBOD", "TFTD", "STIP" };
+static const char *const zeros[] = { "0,", "0,00", "0,000", "000,", "0,0000000000000", "00000000000000," };
+
+/* One of the kinds, of which the last two are the pool's alone. */
+static size_t a_kind(const struct sheet *s) { return below(s->chance, s->pool ? 6 : 4); }
 
 /* A text of c, as wide as asked. */
 static const char *text_of(struct chance *c, size_t wide)
@@ -238,12 +258,12 @@ static void add_link(struct sheet *s, enum label label)
 /* LINK blocks: those that the kind must have and some that it may, in any order. */
 static void add_links(struct sheet *s, size_t kind)
 {
-    bool prev = one_in(s->chance, 2), list = one_in(s->chance, 2);
-    bool has[3] = { kind != 3, kind == 2 && prev, (kind == 1 || kind == 2) && list };
+    static const char *const ours[] = { "MMM-", "--O-", "-OO-" }, *const pools[] = { "MMMOMM", "-OO---", "-OO-OO" };
     size_t first = below(s->chance, 3), step = between(s->chance, 1, 2);
     for (size_t i = 0; i < 3; i++) {
         size_t which = (first + i * step) % 3;
-        if (has[which])
+        char rule = (s->pool ? pools : ours)[which][kind];
+        if (rule == 'M' || (rule == 'O' && one_in(s->chance, 2)))
             add_link(s, MAST + (enum label)which);
     }
 }
@@ -255,7 +275,7 @@ static void add_party(struct sheet *s, enum label label, bool contra)
     add(s, label, label == BUYR ? ":95R::BUYR/GSCC/PART" : ":95R::SELL/GSCC/PART", one_in(c, 4) ? "0017" : text(c, 4, 4));
     if (contra)
         add(s, CONTRA, ":20C::PROC//", text(c, 1, 16));
-    if (one_in(c, 2))
+    if (!s->pool && one_in(c, 2))
         add(s, TDID, ":70C::PACO//GSCC/TDID", text(c, 1, 20));
     add(s, PARTY_END, ":16S:CONFPRTY", "");
 }
@@ -266,6 +286,21 @@ static void add_parties(struct sheet *s, size_t kind, size_t side)
     enum label other = side == 0 ? SELL : BUYR;
     add_party(s, first, kind == 3 && first == other);
     add_party(s, second, kind == 3 && second == other);
+}
+
+static void add_pool_narrative(struct sheet *s, size_t kind)
+{
+    struct chance *c = s->chance;
+    char made[WIDEST_ROW] = ":70E::TPRO//GSCC/TDSVPOOL";
+    if (kind != 3 && one_in(c, 2))
+        paste(made, sizeof made, made, "/CDRY");
+    if (one_in(c, 2)) {
+        paste(made, sizeof made, made, "/DDTE");
+        paste(made, sizeof made, made, date_digits(a_date(c)));
+    }
+    if (kind == 3)
+        paste(made, sizeof made, made, "/DKRS");
+    add(s, NARRATIVE, made, kind == 3 ? text_of(c, 4) : "");
 }
 
 static void add_narrative(struct sheet *s, size_t kind)
@@ -290,11 +325,11 @@ static void add_general(struct sheet *s, size_t kind)
     add(s, PASSWORD, "", text(c, 0, 12));
     add(s, SENDER, "", text(c, 1, 8));
     add(s, THIRD, "515/000/GSCC", "");
-    add(s, FOURTH, "MBSCTRRS", "");
+    add(s, FOURTH, s->pool ? "MBSCPNET" : "MBSCTRRS", "");
     add(s, GENL, ":16R:GENL", "");
     add(s, SEME, ":20C::SEME//", text(c, 1, 16));
     add(s, FUNCTION, ":23G:", kind == 1 ? "CANC" : "NEWM");
-    if (one_in(c, 2))
+    if (!s->pool && one_in(c, 2))
         add(s, PREP, ":98C::PREP//", digits(a_moment(c)));
     add(s, TRTR, ":22F::TRTR/GSCC/CASH", "");
     add_links(s, kind);
@@ -310,6 +345,8 @@ static void add_details(struct sheet *s, size_t kind)
     add(s, TRAD, ":98C::TRAD//", digits(moment(one < two ? one : two, a_time(c))));
     add(s, SETT, ":98A::SETT//", date_digits(one < two ? two : one));
     add(s, DEAL, ":90A::DEAL//PRCT/", amount(c));
+    if (s->pool && !one_in(c, 3))
+        add(s, MONEY, ":19A::SETT//USD", one_in(c, 3) ? PICK(c, zeros) : amount(c));
     add(s, BUSE, ":22H::BUSE//", sides[side]);
     add(s, PROC, ":22F::PROC/GSCC/", kinds[kind]);
     add(s, PAYM, ":22H::PAYM//APMT", "");
@@ -321,14 +358,17 @@ static void add_details(struct sheet *s, size_t kind)
         add(s, POOL, ":13B::POOL/GSCC/", text(c, 1, 9));
         add(s, FIA_END, ":16S:FIA", "");
     }
-    add_narrative(s, kind);
+    if (s->pool)
+        add_pool_narrative(s, kind);
+    else
+        add_narrative(s, kind);
     add(s, CONFDET_END, ":16S:CONFDET", "");
     add(s, END, "-", "");
 }
 
 static void accepted(struct sheet *s)
 {
-    size_t kind = below(s->chance, 4);
+    size_t kind = a_kind(s);
     s->count = 0;
     add_general(s, kind);
     add_details(s, kind);
@@ -346,7 +386,7 @@ static void wrong_end(struct sheet *s)
         return;
     switch (below(s->chance, 4)) {
     case 0: drop(s, at); return;
-    case 1: put(&s->rows[at], OTHER, PICK(s->chance, ends), ""); return;
+    case 1: put(s, at, OTHER, PICK(s->chance, ends), ""); return;
     case 2: add(s, OTHER, PICK(s->chance, ends), ""); return;
     default: add(s, END, "-", ""); return;
     }
@@ -356,7 +396,8 @@ static void wrong_header(struct sheet *s)
 {
     static const char *const lines[] = {
         "", " ", "515/000/GSC", "515/000/GSCCC", "515/000/GSCC ", "518/000/GSCC", "515/000/gscc", "MBSCTRR", "MBSCTRRSS", "MBSCTRRS",
-        "mbsctrrs", "515/000/GSCC", "aB1", "A 1", "A/1", "A@", "A[", "9:", "/0", "ABCDEFGHIJKL", "ABCDEFGHIJKLM", "ABCDEFGH", "ABCDEFGHI"
+        "mbsctrrs", "515/000/GSCC", "515/000/DTCY", "515/000/DTC", "MBSCPNET", "MBSCPNE", "MBSCPNETT", "mbscpnet",
+        "aB1", "A 1", "A/1", "A@", "A[", "9:", "/0", "ABCDEFGHIJKL", "ABCDEFGHIJKLM", "ABCDEFGH", "ABCDEFGHI"
     };
     size_t at = below(s->chance, s->count < 4 ? s->count : 4);
     switch (below(s->chance, 6)) {
@@ -366,8 +407,24 @@ static void wrong_header(struct sheet *s)
         while (s->count > 5 && s->count > at + 1)      /* a header of some lines, and `-` */
             drop(s, at);
         return;
-    default: put(&s->rows[at], OTHER, PICK(s->chance, lines), ""); return;
+    default: put(s, at, OTHER, PICK(s->chance, lines), ""); return;
     }
+}
+
+/* The other profile's words: in one row that has some, in the header alone, or everywhere. */
+static void other_house(struct sheet *s)
+{
+    const char *own = s->pool ? "DTCY" : "GSCC", *other = s->pool ? "GSCC" : "DTCY";
+    size_t how = below(s->chance, 3), from = below(s->chance, s->count), changed = 0;
+    for (size_t i = 0; i < s->count && (how > 0 || changed == 0); i++) {
+        struct row *row = &s->rows[(from + i) % s->count];
+        if ((how != 1 || row->label == THIRD) && strstr(row->text, own)) {
+            rename_house(row->text, own, other);
+            changed++;
+        }
+    }
+    if (how > 0)
+        set(s, FOURTH, s->pool ? "MBSCTRRS" : "MBSCPNET", "");
 }
 
 /* ---------------------------------------------------------------- near misses: 5, 6 and 7 */
@@ -384,7 +441,7 @@ static void wrong_shape(struct sheet *s)
     if (one_in(s->chance, 2))
         insert(s, at, OTHER, PICK(s->chance, lines), "");
     else
-        put(&s->rows[at], OTHER, PICK(s->chance, lines), "");
+        put(s, at, OTHER, PICK(s->chance, lines), "");
 }
 
 static bool is_bracket(const struct row *row) { return strncmp(row->text, ":16", 3) == 0; }
@@ -412,9 +469,9 @@ static void wrong_nesting(struct sheet *s)
     case 1: insert(s, at, OTHER, s->rows[at].text, ""); return;
     case 2: at = any_row(s); insert(s, at, OTHER, PICK(s->chance, brackets), ""); return;
     case 3: exchange(s, at, a_bracket(s)); return;
-    case 4: put(&s->rows[at], OTHER, PICK(s->chance, brackets), ""); return;
+    case 4: put(s, at, OTHER, PICK(s->chance, brackets), ""); return;
     case 5: s->rows[at].text[wide - (wide > 0)] = 0; return;
-    default: put(&s->rows[at], OTHER, s->rows[at].text, text_of(s->chance, 1)); return;
+    default: put(s, at, OTHER, s->rows[at].text, text_of(s->chance, 1)); return;
     }
 }
 
@@ -446,11 +503,12 @@ static void stray_line(struct sheet *s)
         ":98C::SETT//20240229000000", ":90A::DEAL//PRCT/1,", ":22H::BUSE//BUYI", ":22F::PROC/GSCC/INST", ":22H::PROC/GSCC/INST",
         ":22H::PAYM//APMT", ":95R::BUYR/GSCC/PART0001", ":95R::SELL/GSCC/PART0001", ":95R::BUYI/GSCC/PART0001", ":95P::BUYR/GSCC/PART0001",
         ":70C::PACO//GSCC/TDID1", ":36B::CONF//FAMT/1,", ":35B:/US/123456789", ":35A:/US/123456789", ":13B::POOL/GSCC/1",
-        ":70E::TPRO//GSCC/TDSVSTIP", ":70C::TPRO//GSCC/TDSVSTIP", ":70E::TPR"
+        ":70E::TPRO//GSCC/TDSVSTIP", ":70C::TPRO//GSCC/TDSVSTIP", ":70E::TPR", ":70E::TPRO//GSCC/TDSVPOOL", ":19A::SETT//USD1,",
+        ":19A::LOCO//USD1,", ":19B::SETT//USD1,", ":90A::SETT//USD1,"
     };
     size_t at = any_row(s);
     if (one_in(s->chance, 3))
-        put(&s->rows[at], OTHER, PICK(s->chance, lines), "");
+        put(s, at, OTHER, PICK(s->chance, lines), "");
     else
         insert(s, at, OTHER, PICK(s->chance, lines), "");
 }
@@ -551,7 +609,8 @@ static const struct value values[] = {
     { SEME, ":20C::SEME", "//", TEXT, 1, 16 }, { FUNCTION, ":23G:", "", WORD, 0, 0 }, { PREP, ":98C::PREP", "//", MOMENT, 0, 0 },
     { TRTR, ":22F::TRTR", "/GSCC/CASH", WORD, 0, 0 }, { MAST, ":20C::MAST", "//", TEXT, 1, 16 }, { PREV, ":20C::PREV", "//", TEXT, 1, 16 },
     { LIST, ":20C::LIST", "//", TEXT, 1, 16 }, { TRAD, ":98C::TRAD", "//", MOMENT, 0, 0 }, { SETT, ":98A::SETT", "//", DATE, 0, 0 },
-    { DEAL, ":90A::DEAL", "//PRCT/", AMOUNT, 0, 0 }, { BUSE, ":22H::BUSE", "//", WORD, 0, 0 }, { PROC, ":22F::PROC", "/GSCC/", WORD, 0, 0 },
+    { DEAL, ":90A::DEAL", "//PRCT/", AMOUNT, 0, 0 }, { MONEY, ":19A::SETT", "//USD", AMOUNT, 0, 0 },
+    { BUSE, ":22H::BUSE", "//", WORD, 0, 0 }, { PROC, ":22F::PROC", "/GSCC/", WORD, 0, 0 },
     { PAYM, ":22H::PAYM", "//APMT", WORD, 0, 0 }, { BUYR, ":95R::BUYR", "/GSCC/PART", TEXT, 4, 4 },
     { SELL, ":95R::SELL", "/GSCC/PART", TEXT, 4, 4 }, { CONTRA, ":20C::PROC", "//", TEXT, 1, 16 },
     { TDID, ":70C::PACO", "//GSCC/TDID", TEXT, 1, 20 }, { PAR, ":36B::CONF", "//FAMT/", AMOUNT, 0, 0 }, { CUSIP, ":35B:", "/US/", TEXT, 9, 9 },
@@ -575,7 +634,7 @@ static const char *odd_word(struct chance *c)
 {
     static const char *const words[] = {
         "NEW M", "NEWN", "newm", "NEWMX", "NEWM ", "NEW", ":NEWM", "INST", "NEWM", "CANC", "", "BUY", "BUYR", "BUYII", "BUYI", "SELL", "SEL",
-        "SELLR", "INS", "INSTX", "TDD", "TDDK", "MDFC", "MDFD", "CANX", "X", "/", "//"
+        "SELLR", "INS", "INSTX", "TDD", "TDDK", "MDFC", "MDFD", "CANX", "CDRQ", "CDRL", "CDRY", "CASE", "X", "/", "//"
     };
     return PICK(c, words);
 }
@@ -649,29 +708,50 @@ static const char *odd_tail(struct chance *c)
     return made;
 }
 
-static const char *odd_value(struct chance *c, const struct value *v)
+/* The pool's: its parts in their order, each left out, as it should be or odd; the date is mostly a try at the calendar's edges. */
+static const char *odd_pool_tail(struct chance *c)
 {
+    static const char *const first[] = { "TDSVSBOD", "TDSVPOO", "TDSVPOOLX", "tdsvPOOL", "TDSV", "", "POOL", "/TDSVPOOL" };
+    static const char *const odd[] = {
+        "/CDRYY", "/CDR", "/cdry", "CDRY", "/CDRY/", "/CDRY/CDRY", "/GUPP0", "/DKRSABC", "/DKRSABCDE", "/DKRS", "/DKRSABCd", "/DKRSABC/",
+        "/XXXX1", "/", " ", "/CDRY", "/DKRSABCD", "/DDTE20240313", "/DDTE", "/TDSVPOOL"
+    };
+    static char made[WIDEST_ROW];
+    paste(made, sizeof made, one_in(c, 12) ? PICK(c, first) : "TDSVPOOL", "");
+    paste(made, sizeof made, made, one_in(c, 12) ? PICK(c, odd) : one_in(c, 2) ? "/CDRY" : "");
+    if (!one_in(c, 4)) {
+        paste(made, sizeof made, made, "/DDTE");
+        paste(made, sizeof made, made, one_in(c, 8) ? "" : odd_digits(c, DATE));
+    }
+    paste(made, sizeof made, made, one_in(c, 4) ? PICK(c, odd) : one_in(c, 2) ? "/DKRS0001" : "");
+    return made;
+}
+
+static const char *odd_value(struct sheet *s, const struct value *v)
+{
+    struct chance *c = s->chance;
     switch (v->form) {
     case TEXT: return odd_text(c, v->least, v->most);
     case WORD: return odd_word(c);
     case AMOUNT: return odd_amount(c);
-    case TAIL: return odd_tail(c);
+    case TAIL: return s->pool ? odd_pool_tail(c) : odd_tail(c);
     default: return odd_digits(c, v->form);
     }
 }
 
 /* Amounts and dates, which have the most ways to be wrong, as often as all else together. */
-static const struct value *a_value(struct chance *c)
+static const struct value *a_value(struct sheet *s)
 {
+    struct chance *c = s->chance;
     const struct value *v = &PICK(c, values);
-    while (one_in(c, 2) && (v->form == TEXT || v->form == WORD || v->form == TAIL))
+    while (one_in(c, 2) && (v->form == TEXT || v->form == WORD || (v->form == TAIL && !s->pool)))
         v = &PICK(c, values);
     return v;
 }
 
 static void wrong_value(struct sheet *s)
 {
-    const struct value *v = a_value(s->chance);
+    const struct value *v = a_value(s);
     size_t at = find(s, v->label), next = find_from(s, v->label, at + 1);
     if (next < s->count && one_in(s->chance, 2))
         at = next;
@@ -679,7 +759,7 @@ static void wrong_value(struct sheet *s)
         return;
     char before[40];
     paste(before, sizeof before, v->tag, v->fixed);
-    put(&s->rows[at], v->label, before, odd_value(s->chance, v));
+    put(s, at, v->label, before, odd_value(s, v));
 }
 
 /* The text between the qualifier and the value, or a part of the qualifier: cut, changed or longer. */
@@ -708,12 +788,12 @@ static void other_function(struct sheet *s)
 {
     size_t at = find(s, FUNCTION);
     if (at < s->count)
-        put(&s->rows[at], FUNCTION, ":23G:", strcmp(s->rows[at].text, ":23G:NEWM") == 0 ? "CANC" : "NEWM");
+        put(s, at, FUNCTION, ":23G:", strcmp(s->rows[at].text, ":23G:NEWM") == 0 ? "CANC" : "NEWM");
 }
 
 static void other_kind(struct sheet *s)
 {
-    const char *kind = PICK(s->chance, kinds);
+    const char *kind = kinds[a_kind(s)];
     set(s, PROC, ":22F::PROC/GSCC/", kind);
     if (!one_in(s->chance, 4))
         set(s, FUNCTION, ":23G:", strcmp(kind, "CANC") == 0 ? "CANC" : "NEWM");
@@ -752,12 +832,36 @@ static void other_contra(struct sheet *s)
 static void other_narrative(struct sheet *s)
 {
     static const char *const tails[] = { "", "/GUPP0", "/DKRSABCD", "/GUPP0/DKRSABCD" };
-    set(s, NARRATIVE, ":70E::TPRO//GSCC/TDSVSTIP", PICK(s->chance, tails));
+    static const char *const pool_tails[] = {
+        "", "/CDRY", "/DDTE00010101", "/CDRY/DDTE99991231", "/DKRSABCD", "/CDRY/DKRSABCD", "/DDTE20240229/DKRSABCD",
+        "/CDRY/DDTE20240229/DKRSABCD"
+    };
+    if (s->pool && one_in(s->chance, 2))
+        set(s, NARRATIVE, ":70E::TPRO//GSCC/", odd_pool_tail(s->chance));
+    else if (s->pool)
+        set(s, NARRATIVE, ":70E::TPRO//GSCC/TDSVPOOL", PICK(s->chance, pool_tails));
+    else
+        set(s, NARRATIVE, ":70E::TPRO//GSCC/TDSVSTIP", PICK(s->chance, tails));
+}
+
+/* A 19A line more or less, or another one; our own profile has no slot for it. */
+static void other_money(struct sheet *s)
+{
+    static const char *const others[] = {
+        "USD0,", "USD0,00", "USD000,", "USD0012,500", "USD99999999999999,", "USD", "USD1", "USDN1,", "NUSD1,", "EUR1,", "usd1,", "USD 1,",
+        "US1,", "USDD1,"
+    };
+    size_t at = find(s, MONEY), next = find(s, BUSE);
+    if (at < s->count && one_in(s->chance, 3))
+        drop(s, at);
+    else if (at < s->count)
+        put(s, at, MONEY, ":19A::SETT//", PICK(s->chance, others));
+    else if (next < s->count)
+        insert(s, next, MONEY, ":19A::SETT//", PICK(s->chance, others));
 }
 
 static void zero_par(struct sheet *s)
 {
-    static const char *const zeros[] = { "0,", "0,000", "000,", "0,0000000000000", "00000000000000," };
     set(s, PAR, ":36B::CONF//FAMT/", PICK(s->chance, zeros));
 }
 
@@ -775,10 +879,10 @@ static void early_settlement(struct sheet *s)
 typedef void change(struct sheet *s);
 
 static change *const changes[] = {
-    early_end, wrong_end, wrong_header, wrong_header, wrong_shape, wrong_nesting, nest, nest, stray_line, drop_row, double_row,
+    early_end, wrong_end, wrong_header, wrong_header, other_house, wrong_shape, wrong_nesting, nest, nest, stray_line, drop_row, double_row,
     exchange_rows, move_row, drop_block, double_block, further_block, wrong_value, wrong_value, wrong_value, wrong_value, wrong_value,
-    wrong_fixed_text, wrong_fixed_text, other_function, other_kind, other_side, other_links, other_contra, other_narrative, zero_par,
-    early_settlement
+    wrong_fixed_text, wrong_fixed_text, other_function, other_kind, other_side, other_links, other_contra, other_narrative, other_money,
+    zero_par, early_settlement
 };
 
 /* None, or one to three, of these changes. */
@@ -971,10 +1075,11 @@ static void finish(struct chance *c, struct bytes *b)
     }
 }
 
-bool make_message(struct chance *chance, struct bytes *message)
+bool make_message(struct chance *chance, bool pool, struct bytes *message)
 {
     static struct sheet s;
     s.chance = chance;
+    s.pool = pool;
     message->length = 0;
     accepted(&s);
     bool by_lines = one_in(chance, 4);
@@ -1149,13 +1254,13 @@ void make_record(struct chance *chance, uint8_t record[RECORD_BYTES])
 
 /* ---------------------------------------------------------------- batches */
 
-void make_batch(struct chance *chance, struct bytes *batch)
+void make_batch(struct chance *chance, bool pool, struct bytes *batch)
 {
     static struct bytes message;
     static const char *const pieces[] = { "", "X\n-\n", "-\n", "-\r\n", "-\r\r\n", "\n", "\r\n", "X", "-", "X\n", "--\n", " -\n" };
     batch->length = 0;
     for (size_t many = below(chance, 5); many > 0; many--) {
-        make_message(chance, &message);
+        make_message(chance, one_in(chance, 8) ? !pool : pool, &message);
         if (one_in(chance, 3)) {
             const char *piece = PICK(chance, pieces);
             message.length = strlen(piece);

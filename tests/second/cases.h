@@ -1,4 +1,5 @@
-/* cases.h: generated messages, records and batches. A seed and a number tell each of them. */
+/* cases.h: generated messages, records and batches. A seed and a number tell each of them. A message and a batch are of our own
+ * profile or of the pool's, a record is of our own. */
 #ifndef CASES_H
 #define CASES_H
 
@@ -24,12 +25,12 @@ void chance_start(struct chance *chance, uint64_t seed, uint64_t number);
 size_t below(struct chance *chance, size_t count);      /* 0 to count - 1 */
 
 /* A message: accepted, a near miss, or damaged. Answers whether it was damaged by lines: some of them odd ones, or gone. */
-bool make_message(struct chance *chance, struct bytes *message);
+bool make_message(struct chance *chance, bool pool, struct bytes *message);
 
 /* The 375 bytes of a record: writable, at or past an edge of one of its places, or anything. */
 void make_record(struct chance *chance, uint8_t record[RECORD_BYTES]);
 
-/* Some messages, and pieces of messages, one after another. */
-void make_batch(struct chance *chance, struct bytes *batch);
+/* Some messages, now and then one of the other profile, and pieces of messages, one after another. */
+void make_batch(struct chance *chance, bool pool, struct bytes *batch);
 
 #endif

@@ -1,6 +1,7 @@
 #!/bin/sh
 # check.sh - builds the second program and holds it against what document 01 prints:
 # B, the lister's example, "B and its neighbours"; then writing, and generated messages.
+# Then by the pool's profile against what the page of request A1 prints: P, and its worked cases.
 # usage: check.sh [SEED COUNT]   (further generated messages; without: seed 1, 2700, the whole list of near misses)
 set -eu
 cd "$(dirname "$0")"
@@ -133,8 +134,9 @@ echo "fields of B: as numbered"
 { echo '# B'; b; } | "$work/list-checked" --plain | cmp - "$work/plain"
 echo "plain form of B: as by the four rules"
 
-"$work/records-checked"
-echo "writing: every refusal, the order of refusals, the widest of each kind (718 770 822 699)"
+python3 pool.py P > "$work/p"
+"$work/records-checked" "$work/p"
+echo "writing: every refusal, the order of refusals, the widest of each kind (718 770 822 699), of the pool's (648 752 752 682 700 700)"
 
 seed=${1:-1} count=${2:-2700}
 mkdir "$work/files"
@@ -143,3 +145,37 @@ for f in "$work/files"/*; do "$work/list-checked" < "$f"; done > "$work/generate
 awk -f want.awk "$work/generated"
 for f in "$work/files"/*; do "$work/list-checked" --twice < "$f"; done
 echo "generated: plain form, write, field and batch agree"
+
+# the pool: P and every worked case, with LF and with CR LF; B by the pool, and P by our own
+python3 pool.py > "$work/worked"
+{ cat "$work/worked"; echo '# B,want=4@3'; b; } | "$work/list-checked" --pool | awk -f want.awk
+{ echo '# P,want=4@3'; cat "$work/p"; } | "$work/list-checked" | awk -f want.awk
+"$work/list-checked" --pool --twice < "$work/worked"
+echo "P and its worked cases: as printed; plain form, write, field and batch agree"
+
+# P with CR LF: its length, its fields by offset and length and by their texts, its plain form
+sed "s/\$/$cr/" "$work/p" > "$work/p-crlf"
+test "$(wc -c < "$work/p-crlf")" -eq 580
+{ echo '# P'; cat "$work/p-crlf"; } | "$work/list-checked" --pool --fields | tr ' ' '\n' | sed 1d > "$work/stretches"
+for field in 1:55:4 4:0:0 5:0:0 9:248:4 12:403:4 13:0:0 14:347:4 15:0:0 17:463:9 19:535:26; do
+    test "${field%%:*}:$(sed -n "${field%%:*}p" "$work/stretches")" = "$field"
+done
+while IFS=: read -r offset length; do
+    dd if="$work/p-crlf" bs=1 skip="$offset" count="$length" 2>/dev/null; echo
+done < "$work/stretches" > "$work/fields"
+printf '%s\n' 0008 NEWM 0017 '' '' 20240229000000 20240313 99,50 0,00 BUYI INST 0017 '' 0015 '' 0001000000, 01F070633 123456 \
+    TDSVPOOL/CDRY/DDTE20240313 | diff - "$work/fields"
+echo "fields of P: as printed"
+
+{ sed -n '1,20p' "$work/p"; sed -n '24,26p' "$work/p"; sed -n '21,23p' "$work/p"; sed -n '27,34p' "$work/p"; } |
+    sed "s/\$/$cr/; s/99,50/99,5/; s/USD0,00/USD0,/; s/0001000000/1000000/" > "$work/plain"
+test "$(wc -c < "$work/plain")" -eq 574
+for p in "$work/p" "$work/p-crlf"; do
+    { echo '# P'; cat "$p"; } | "$work/list-checked" --pool --plain | sed 1d | cmp - "$work/plain"
+done
+echo "plain form of P: as by the four rules, 574 bytes"
+
+"$work/list-checked" --pool --plain < "$work/worked" |
+    LC_ALL=C awk '/^# / { name = $2; next } name ~ /^widest/ { bytes[name] += length($0) + 1 }
+        END { for (n in bytes) { split(n, part, "-"); tried++; if (bytes[n] != part[4]) exit 1 } exit tried != 12 }'
+echo "widest messages of the pool: as long as printed"

@@ -1,16 +1,19 @@
-/* differ.c: holds the static library, called through include/mt515.h, against the second program.
+/* differ.c: holds the static library, called through include/mt515.h and include/pool.h, against the second program.
  *
  * differ SEED COUNT [FROM]
  *     tries COUNT generated cases of a seed, from number FROM on. A case is a message; every tenth is a record too, and every
- *     hundredth a batch. Where a number of the desk came up too seldom to say anything it ends with status 1.
+ *     hundredth a batch; and every fourth is a message of the pool, and of those every hundredth a batch of the pool. Where a
+ *     number of the desk came up too seldom to say anything it ends with status 1.
  * differ -f FILE..
- *     tries messages from files, each under a line `# name`, as make.py writes them.
+ *     tries messages from files, each under a line `# name`, as make.py and pool.py write them, by both profiles.
  *
  * All that an entry answers is compared: numbers, lines, places, and every byte of what it is lent, with some bytes before and
- * behind. On the first difference it prints the case with both answers and the bytes given, and ends with status 1. */
+ * behind. Every message is given to the reader of the other profile too, and no two profiles may accept one. On the first difference
+ * it prints the case with both answers and the bytes given, and ends with status 1. */
 #define _DEFAULT_SOURCE
 #include "cases.h"
 #include "mt515.h"
+#include "pool.h"
 
 #include <stdbool.h>
 #include <stdlib.h>
@@ -19,6 +22,7 @@
 
 enum {
     TENTH = 10, HUNDREDTH = 100,     /* of the messages so many are followed by a record, and by a batch */
+    FOURTH = 4,                      /* and so many by a message of the pool */
     SELDOM = 400,                    /* a number that comes up in fewer than one of so many cases came up too seldom */
     GUARD = 16,                      /* bytes before and behind what is lent */
     MARK = 0xA5,
@@ -36,10 +40,58 @@ static struct {
     size_t length;
 } now;
 
-/* How often each number came up, by entry; and last, with reading, of the messages damaged by lines alone. */
-enum { READ, FIELD, PLACES, PLAIN, WRITE, NEXT, LINES, COUNTED };
+/* How often each number came up, by entry; with reading once more of the messages damaged by lines alone, of the pool's messages
+ * whose 70E line decides, and of the messages of the other profile. */
+enum {
+    READ, FIELD, PLACES, PLAIN, WRITE, NEXT, LINES, OTHERS,
+    POOL_READ, POOL_FIELD, POOL_PLAIN, POOL_NEXT, POOL_LINES, POOL_TAIL, POOL_OTHERS, COUNTED
+};
 static uint64_t came_up[COUNTED][NUMBERS_OF_DESK];
-static const char *const entries[] = { "read", "field", "places", "plain", "write", "next", "lines" };
+
+/* The numbers that must come up, a bit each: with reading 0 to 17, with a plain form 19 too, with writing 0 and 14 to 19, with the
+ * batch 21; with the messages damaged by lines, which are made for these, 0, 5, 6, 8, 9 and 10. 20 does not come up. */
+enum {
+    OF_READING = (1 << 18) - 1,
+    OF_PLAIN = OF_READING | 1 << 19,
+    OF_WRITING = 1 | 63 << 14,
+    OF_NEXT = OF_READING | 1 << 21,
+    OF_LINES = 1 | 1 << 5 | 1 << 6 | 7 << 8,
+    OF_TAIL = 1 << 10 | 1 << 12,
+    OF_OTHERS = 1 << 4
+};
+
+static const struct {
+    const char *entry, *what;        /* what: of which messages, where it is not all */
+    unsigned must;
+    uint64_t share;                  /* they are looked for in one of so many cases */
+} counted[COUNTED] = {
+    [READ] = { "mt515_read", "", OF_READING, 1 },
+    [FIELD] = { "mt515_field", "", OF_READING, 1 },
+    [PLACES] = { "mt515_places", "", OF_READING, 1 },
+    [PLAIN] = { "mt515_plain", "", OF_PLAIN, 1 },
+    [WRITE] = { "mt515_write", "", OF_WRITING, TENTH },
+    [NEXT] = { "mt515_next", "", OF_NEXT, 1 },
+    [LINES] = { "mt515_read", ", lines", OF_LINES, 1 },
+    [OTHERS] = { "mt515_read", ", the pool's", OF_OTHERS, FOURTH },
+    [POOL_READ] = { "pool_read", "", OF_READING, FOURTH },
+    [POOL_FIELD] = { "pool_field", "", OF_READING, FOURTH },
+    [POOL_PLAIN] = { "pool_plain", "", OF_PLAIN, FOURTH },
+    [POOL_NEXT] = { "pool_next", "", OF_NEXT, FOURTH },
+    [POOL_LINES] = { "pool_read", ", lines", OF_LINES, 2 * FOURTH },
+    [POOL_TAIL] = { "pool_read", ", 70E", OF_TAIL, 2 * FOURTH },
+    [POOL_OTHERS] = { "pool_read", ", our own", OF_OTHERS, 1 },
+};
+
+/* What the two profiles have alike: a profile of the second program, and the entries of the library that go by it. */
+static const struct tested {
+    const struct profile *second;
+    size_t fields;                   /* slots; behind them the password, and behind that the sender */
+    uint8_t (*places)(const uint8_t *message, size_t length, size_t *starts, size_t *ends, size_t *line);
+    uint8_t (*field)(const uint8_t *message, size_t length, size_t slot, size_t *offset, size_t *count);
+    uint8_t (*plain)(const uint8_t *message, size_t length, uint8_t *out, size_t room, size_t *line, size_t *written);
+    int counts_places, counts_field, counts_plain, counts_next, counts_lines;
+} ours = { &second_mt515, FIELDS, mt515_places, mt515_field, mt515_plain, PLACES, FIELD, PLAIN, NEXT, LINES },
+  pools = { &second_pool, FIELDS_OF_POOL, pool_read, pool_field, pool_plain, POOL_READ, POOL_FIELD, POOL_PLAIN, POOL_NEXT, POOL_LINES };
 
 /* What an entry answers, and all that it is lent; marked beforehand, so that what it does not answer keeps the mark. */
 struct told {
@@ -114,14 +166,24 @@ static void print_case(void)
 /* What was asked: the entry, and what it was given beside the bytes. */
 static void print_asked(int entry)
 {
-    printf("mt515_%s", entries[entry]);
-    if (entry == FIELD)
+    printf("%s", counted[entry].entry);
+    if (entry == FIELD || entry == POOL_FIELD)
         printf(", slot %zu", now.slot);
-    if (entry == PLAIN || entry == WRITE)
+    if (entry == PLAIN || entry == POOL_PLAIN || entry == WRITE)
         printf(", room %zu", now.room);
-    if (entry == NEXT)
+    if (entry == NEXT || entry == POOL_NEXT)
         printf(", position %zu", now.position);
     puts("");
+}
+
+/* Something is wrong with the case, beside a difference. */
+static void fail(const char *what)
+{
+    printf("FAILED: ");
+    print_case();
+    printf(": %s\n", what);
+    print_bytes("given", now.bytes, now.length);
+    exit(1);
 }
 
 static void print_difference(int entry, const struct told *library, const struct told *second)
@@ -133,7 +195,7 @@ static void print_difference(int entry, const struct told *library, const struct
     print_asked(entry);
     print_told("the library       ", library);
     print_told("the second program", second);
-    for (size_t f = 0; entry == PLACES && f < MT515_FIELDS; f++)
+    for (size_t f = 0; f < MT515_FIELDS; f++)
         if (library->starts[f] != second->starts[f] || library->ends[f] != second->ends[f])
             printf("field %zu: %zu to %zu, %zu to %zu\n", f, library->starts[f], library->ends[f], second->starts[f],
                    second->ends[f]);
@@ -159,7 +221,8 @@ static void compare(int entry, const struct told *library, const struct told *se
 
 /* ---------------------------------------------------------------- the entries, each asked of both */
 
-static void ask_read(const uint8_t *message, size_t length)
+/* Our own record of a message; counted as reading, or as reading what is another profile's. */
+static void ask_read(const uint8_t *message, size_t length, int entry)
 {
     static struct told library, second;
     struct record record;
@@ -171,84 +234,78 @@ static void ask_read(const uint8_t *message, size_t length)
     second.number = (uint8_t)answer.number;
     second.line = answer.line;
     second_to_bytes(&record, lent);
-    compare(READ, &library, &second);
+    compare(entry, &library, &second);
+}
+
+/* All fields, which is the pool's reading. */
+static void ask_places(const struct tested *by, const uint8_t *message, size_t length, int entry)
+{
+    static struct told library, second;
+    struct stretch fields[MOST_FIELDS + 3];
+    marked(&library);
+    library.number = by->places(message, length, library.starts, library.ends, &library.line);
+
+    marked(&second);
+    struct answer answer = second_fields_by(by->second, message, length, fields);
+    second.number = (uint8_t)answer.number;
+    second.line = answer.line;
+    for (size_t f = 0; f < by->fields + 3; f++) {
+        second.starts[f] = fields[f].offset;
+        second.ends[f] = fields[f].offset + fields[f].length;
+    }
+    compare(entry, &library, &second);
 }
 
 /* One slot, or a number that names none. */
-static void ask_field(const uint8_t *message, size_t length, size_t slot, uint8_t number, struct stretch stretch)
+static void ask_field(const struct tested *by, const uint8_t *message, size_t length, size_t slot, uint8_t number,
+                      struct stretch stretch)
 {
     static struct told library, second;
     now.slot = slot;
     marked(&library);
-    library.number = mt515_field(message, length, slot, &library.offset, &library.count);
+    library.number = by->field(message, length, slot, &library.offset, &library.count);
 
     marked(&second);
     second.number = number;
     second.offset = stretch.offset;
     second.count = stretch.length;
-    compare(FIELD, &library, &second);
+    compare(by->counts_field, &library, &second);
 }
 
-/* Every slot; of a refused message, where each is answered alike, mostly three, since each costs a reading. */
-static void ask_fields(struct chance *chance, const uint8_t *message, size_t length, uint8_t number)
+/* Every slot, and the numbers of the password and the sender, which are no slots; of a refused message, where each is answered
+ * alike, mostly three, since each costs a reading. */
+static void ask_fields(struct chance *chance, const struct tested *by, const uint8_t *message, size_t length, uint8_t number)
 {
     static const size_t none[] = { 23, 64, 255, 256, 257, 268, 65537, 4294967297u, 4294967308u, SIZE_MAX, SIZE_MAX - 20 };
-    struct stretch fields[FIELDS + 1];
-    second_fields(message, length, fields);
+    struct stretch fields[MOST_FIELDS + 3];
+    second_fields_by(by->second, message, length, fields);
+    for (size_t f = by->fields + 1; f < MOST_FIELDS + 3; f++)
+        fields[f] = fields[0];
     if (number == ACCEPTED || below(chance, 8) == 0)
-        for (size_t slot = 0; slot <= FIELDS; slot++)
-            ask_field(message, length, slot, number, fields[slot]);
+        for (size_t slot = 0; slot < by->fields + 3; slot++)
+            ask_field(by, message, length, slot, number, fields[slot]);
     else
         for (size_t times = 0; times < 3; times++) {
-            size_t slot = below(chance, FIELDS + 1);
-            ask_field(message, length, slot, number, fields[slot]);
+            size_t slot = below(chance, by->fields + 3);
+            ask_field(by, message, length, slot, number, fields[slot]);
         }
-    ask_field(message, length, below(chance, 4) == 0 ? FIELDS + 1 : none[below(chance, sizeof none / sizeof none[0])], number, fields[0]);
+    size_t beyond = below(chance, 4) == 0 ? by->fields + 3 : none[below(chance, sizeof none / sizeof none[0])];
+    ask_field(by, message, length, beyond, number, fields[0]);
 }
 
-/* All fields; the password and the sender by the second program's record, which stand on the first two lines. */
-static void ask_places(const uint8_t *message, size_t length)
-{
-    static struct told library, second;
-    struct record record;
-    struct stretch fields[FIELDS + 1];
-    marked(&library);
-    library.number = mt515_places(message, length, library.starts, library.ends, &library.line);
-
-    marked(&second);
-    struct answer answer = second_read(message, length, &record);
-    second.number = (uint8_t)answer.number;
-    second.line = answer.line;
-    memset(second.starts, 0, sizeof second.starts);
-    memset(second.ends, 0, sizeof second.ends);
-    second_fields(message, length, fields);
-    for (size_t slot = 0; slot <= FIELDS; slot++) {
-        second.starts[slot] = fields[slot].offset;
-        second.ends[slot] = fields[slot].offset + fields[slot].length;
-    }
-    if (answer.number == ACCEPTED) {
-        size_t line = 0;
-        while (message[line++] != '\n') {}
-        second.ends[MT515_FIELD_PASSWORD] = record.password.length;
-        second.starts[MT515_FIELD_SENDER] = line;
-        second.ends[MT515_FIELD_SENDER] = line + record.sender.length;
-    }
-    compare(PLACES, &library, &second);
-}
-
-static size_t ask_plain(const uint8_t *message, size_t length, size_t room)
+static size_t ask_plain(const struct tested *by, const uint8_t *message, size_t length, size_t room)
 {
     static struct told library, second;
     now.room = room;
     uint8_t *lent = marked(&library);
-    library.number = mt515_plain(message, length, lent, room, &library.line, &library.written);
+    library.number = by->plain(message, length, lent, room, &library.line, &library.written);
 
     lent = marked(&second);
-    struct written written = second_plain(message, length, lent, room);
+    struct written written = second_plain_by(by->second, message, length, lent, room);
     second.number = (uint8_t)written.number;
     second.line = written.line;
     second.written = written.length;
-    compare(PLAIN, &library, &second);
+    compare(by->counts_plain, &library, &second);
     now.room = 0;
     return written.length;
 }
@@ -272,22 +329,26 @@ static size_t ask_write(const uint8_t record[RECORD_BYTES], size_t room)
 }
 
 /* Answers the next position, or the one given where there is no message. */
-static size_t ask_next(const uint8_t *batch, size_t length, size_t position)
+static size_t ask_next(const struct tested *by, const uint8_t *batch, size_t length, size_t position)
 {
     static struct told library, second;
-    struct record record;
+    union any_record record;
     now.position = position;
     uint8_t *lent = marked(&library);
-    library.found = mt515_next(batch, length, position, lent, &library.line, &library.next, &library.number);
+    if (by == &ours)
+        library.found = mt515_next(batch, length, position, lent, &library.line, &library.next, &library.number);
+    else
+        library.found = pool_next(batch, length, position, &library.line, &library.next, &library.number);
 
     lent = marked(&second);
-    struct next next = second_next(batch, length, position, &record);
+    struct next next = second_next_by(by->second, batch, length, position, &record);
     second.found = (uint8_t)next.state;
     second.number = (uint8_t)next.answer.number;
     second.line = next.answer.line;
     second.next = next.position;
-    second_to_bytes(&record, lent);
-    compare(NEXT, &library, &second);
+    if (by == &ours)
+        second_to_bytes(&record.mt515, lent);
+    compare(by->counts_next, &library, &second);
     now.position = 0;
     return next.position;
 }
@@ -306,22 +367,27 @@ static size_t a_room(struct chance *chance, size_t length)
     }
 }
 
-typedef size_t in_room(const uint8_t *bytes, size_t length, size_t room);
+typedef size_t in_room(const struct tested *by, const uint8_t *bytes, size_t length, size_t room);
 
-static size_t write_in_room(const uint8_t *bytes, size_t length, size_t room)
+static size_t write_in_room(const struct tested *by, const uint8_t *bytes, size_t length, size_t room)
 {
+    (void)by;
     (void)length;
     return ask_write(bytes, room);
 }
 
-/* Ample room; one about the length; and now and then every one from 0 to one past the length. */
-static void ask_rooms(struct chance *chance, in_room *ask, const uint8_t *bytes, size_t length)
+/* Ample room; just enough, and one byte less; one about the length; and now and then every one from 0 to one past the length. */
+static void ask_rooms(struct chance *chance, const struct tested *by, in_room *ask, const uint8_t *bytes, size_t length)
 {
-    size_t written = ask(bytes, length, MOST_ROOM);
-    ask(bytes, length, a_room(chance, written));
+    size_t written = ask(by, bytes, length, MOST_ROOM);
+    if (written > 0) {
+        ask(by, bytes, length, written);
+        ask(by, bytes, length, written - 1);
+    }
+    ask(by, bytes, length, a_room(chance, written));
     if (below(chance, 500) == 0)
         for (size_t room = 0; room <= written + 1; room++)
-            ask(bytes, length, room);
+            ask(by, bytes, length, room);
 }
 
 /* ---------------------------------------------------------------- cases */
@@ -347,31 +413,72 @@ static const uint8_t *lend(const uint8_t *bytes, size_t length)
 
 static void still(const uint8_t *lent, const uint8_t *bytes, size_t length, const char *what)
 {
-    if (memcmp(lent, bytes, length) == 0)
-        return;
-    print_case();
-    printf(": %s was changed\n", what);
-    print_bytes("given", bytes, length);
-    exit(1);
+    if (memcmp(lent, bytes, length) != 0)
+        fail(what);
+}
+
+/* Whether a line, counted from 1, begins so. */
+static bool line_begins(const struct bytes *message, size_t line, const char *words)
+{
+    size_t at = 0;
+    for (; line > 1 && at < message->length; at++)
+        line -= message->at[at] == '\n';
+    return at + strlen(words) <= message->length && memcmp(message->at + at, words, strlen(words)) == 0;
+}
+
+/* The other profile's reader; that both accept one message must not be. */
+static void ask_other(const struct tested *by, const uint8_t *message, size_t length, int number)
+{
+    union any_record record;
+    if (by == &ours)
+        ask_places(&pools, message, length, POOL_OTHERS);
+    else
+        ask_read(message, length, OTHERS);
+    if (number == ACCEPTED && second_read_by((by == &ours ? &pools : &ours)->second, message, length, &record).number == ACCEPTED)
+        fail("both profiles accept the message");
+}
+
+/* What the second program writes of the pool's record, which no entry of the library is asked to write: it is the plain form of
+ * the message, and one more message to read. */
+static void try_written(const struct pool_record *record, const struct bytes *message)
+{
+    static struct bytes written;
+    uint8_t plain[LONGEST_OF_POOL];
+    struct written w = second_write_by(&second_pool, record, written.at, LONGEST_OF_POOL);
+    struct written p = second_plain_by(&second_pool, message->at, message->length, plain, LONGEST_OF_POOL);
+    if (w.number != ACCEPTED || w.length != p.length || memcmp(written.at, plain, p.length) != 0)
+        fail("the second program writes something else than the plain form");
+    written.length = w.length;
+    const uint8_t *lent = lend(written.at, written.length);
+    ask_places(&pools, lent, written.length, POOL_READ);
+    ask_plain(&pools, lent, written.length, written.length);
+    still(lent, written.at, written.length, "the written message was changed");
 }
 
 /* Answers the number of the read. */
-static int try_message(struct chance *chance, const struct bytes *message)
+static int try_message(struct chance *chance, const struct tested *by, const struct bytes *message)
 {
-    struct record record;
+    union any_record record;
     const uint8_t *lent = lend(message->at, message->length);
-    struct answer answer = second_read(lent, message->length, &record);
+    struct answer answer = second_read_by(by->second, lent, message->length, &record);
 
-    ask_read(lent, message->length);
-    ask_fields(chance, lent, message->length, (uint8_t)answer.number);
-    ask_places(lent, message->length);
+    if (by == &ours)
+        ask_read(lent, message->length, READ);
+    ask_places(by, lent, message->length, by->counts_places);
+    ask_fields(chance, by, lent, message->length, (uint8_t)answer.number);
     if (answer.number == ACCEPTED)
-        ask_rooms(chance, ask_plain, lent, message->length);
+        ask_rooms(chance, by, ask_plain, lent, message->length);
     else
-        ask_plain(lent, message->length, a_room(chance, MOST_ROOM - 1));
-    ask_next(lent, message->length, 0);
-    ask_next(lent, message->length, below(chance, message->length + 4));
-    still(lent, message->at, message->length, "the message");
+        ask_plain(by, lent, message->length, a_room(chance, MOST_ROOM - 1));
+    ask_next(by, lent, message->length, 0);
+    ask_next(by, lent, message->length, below(chance, message->length + 4));
+    ask_other(by, lent, message->length, answer.number);
+    still(lent, message->at, message->length, "the message was changed");
+
+    if (by == &pools && answer.line > 0 && line_begins(message, answer.line, ":70E::TPRO"))
+        came_up[POOL_TAIL][answer.number]++;
+    if (by == &pools && answer.number == ACCEPTED)
+        try_written(&record.pool, message);
     return answer.number;
 }
 
@@ -380,69 +487,67 @@ static void try_record(struct chance *chance)
     uint8_t record[RECORD_BYTES];
     make_record(chance, record);
     const uint8_t *lent = lend(record, RECORD_BYTES);
-    ask_rooms(chance, write_in_room, lent, RECORD_BYTES);
-    still(lent, record, RECORD_BYTES, "the record");
+    ask_rooms(chance, &ours, write_in_room, lent, RECORD_BYTES);
+    still(lent, record, RECORD_BYTES, "the record was changed");
 }
 
 /* From message to message; then from some positions, or from every one, to past the end. */
-static void try_batch(struct chance *chance)
+static void try_batch(struct chance *chance, const struct tested *by)
 {
     static struct bytes batch;
-    make_batch(chance, &batch);
+    make_batch(chance, by == &pools, &batch);
     const uint8_t *lent = lend(batch.at, batch.length);
     size_t position = 0;
     while (position < batch.length)
-        position = ask_next(lent, batch.length, position);
-    ask_next(lent, batch.length, SIZE_MAX - below(chance, 3));
+        position = ask_next(by, lent, batch.length, position);
+    ask_next(by, lent, batch.length, SIZE_MAX - below(chance, 3));
     if (below(chance, 8) == 0)
         for (position = 0; position <= batch.length + 2; position++)
-            ask_next(lent, batch.length, position);
+            ask_next(by, lent, batch.length, position);
     else
         for (size_t times = 0; times < 20; times++)
-            ask_next(lent, batch.length, below(chance, batch.length + 3));
-    still(lent, batch.at, batch.length, "the batch");
+            ask_next(by, lent, batch.length, below(chance, batch.length + 3));
+    still(lent, batch.at, batch.length, "the batch was changed");
+}
+
+static void try_generated(struct chance *chance, const struct tested *by)
+{
+    static struct bytes message;
+    bool by_lines = make_message(chance, by == &pools, &message);
+    int answer = try_message(chance, by, &message);
+    if (by_lines)
+        came_up[by->counts_lines][answer]++;
 }
 
 static void try_case(uint64_t seed, uint64_t number)
 {
-    static struct bytes message;
     struct chance chance;
     now.seed = seed;
     now.number = number;
     chance_start(&chance, seed, number);
-    bool by_lines = make_message(&chance, &message);
-    int answer = try_message(&chance, &message);
-    if (by_lines)
-        came_up[LINES][answer]++;
+    try_generated(&chance, &ours);
     if (number % TENTH == 0)
         try_record(&chance);
     if (number % HUNDREDTH == 0)
-        try_batch(&chance);
+        try_batch(&chance, &ours);
+    if (number % FOURTH == 0)
+        try_generated(&chance, &pools);
+    if (number % (FOURTH * HUNDREDTH) == 0)
+        try_batch(&chance, &pools);
 }
 
 /* ---------------------------------------------------------------- whether it reached everything */
 
-/* Where a number must come up: reading 0 to 17, a plain form 19 too, writing 0 and 14 to 19 but 20, the batch 21; with the messages
- * damaged by lines, which are made for these, 0, 5, 6, 8, 9 and 10. */
-static bool must_come_up(int entry, int number)
-{
-    if (entry == WRITE)
-        return number == 0 || (number >= 14 && number <= 19);
-    if (entry == LINES)
-        return number == 0 || number == 5 || number == 6 || (number >= 8 && number <= 10);
-    return number <= 17 || (entry == PLAIN && number == 19) || (entry == NEXT && number == 21);
-}
-
 static bool reached(uint64_t count)
 {
     bool all = true;
-    for (int entry = READ; entry < COUNTED; entry++) {
-        printf("%-6s", entries[entry]);
+    for (int entry = 0; entry < COUNTED; entry++) {
+        uint64_t least = count / counted[entry].share / SELDOM;
+        printf("%s%s:", counted[entry].entry, counted[entry].what);
         for (int n = 0; n < NUMBERS_OF_DESK; n++) {
-            uint64_t least = entry == WRITE ? count / TENTH / SELDOM : count / SELDOM;
             if (came_up[entry][n] > 0)
                 printf(" %d:%llu", n, (unsigned long long)came_up[entry][n]);
-            if (must_come_up(entry, n) && came_up[entry][n] < least) {
+            if ((counted[entry].must >> n & 1) && came_up[entry][n] < least) {
                 printf(" (too seldom: %d)", n);
                 all = false;
             }
@@ -450,6 +555,12 @@ static bool reached(uint64_t count)
         puts("");
     }
     return all;
+}
+
+/* How many of the cases have a number that can be divided so. */
+static unsigned long long every(uint64_t nth, uint64_t count, uint64_t from)
+{
+    return (from + count + nth - 1) / nth - (from + nth - 1) / nth;
 }
 
 static int try_cases(uint64_t seed, uint64_t count, uint64_t from)
@@ -465,9 +576,9 @@ static int try_cases(uint64_t seed, uint64_t count, uint64_t from)
         puts("FAILED: a number came up too seldom");
         return 1;
     }
-    printf("ok, %llu messages, %llu records and %llu batches are answered alike\n", (unsigned long long)count,
-           (unsigned long long)((from + count + TENTH - 1) / TENTH - (from + TENTH - 1) / TENTH),
-           (unsigned long long)((from + count + HUNDREDTH - 1) / HUNDREDTH - (from + HUNDREDTH - 1) / HUNDREDTH));
+    printf("ok, %llu messages, %llu records and %llu batches, and %llu messages and %llu batches of the pool, are answered alike\n",
+           every(1, count, from), every(TENTH, count, from), every(HUNDREDTH, count, from), every(FOURTH, count, from),
+           every(FOURTH * HUNDREDTH, count, from));
     return 0;
 }
 
@@ -504,7 +615,8 @@ static size_t try_file(FILE *file)
             message.length += length;
         }
         chance_start(&chance, message.length, tried++);
-        try_message(&chance, &message);
+        try_message(&chance, &ours, &message);
+        try_message(&chance, &pools, &message);
     }
     return tried;
 }
@@ -522,7 +634,7 @@ static int try_files(char **names)
         tried += of_file;
         fclose(file);
     }
-    printf("ok, %zu messages from files are answered alike\n", tried);
+    printf("ok, %zu messages from files are answered alike, by both profiles\n", tried);
     return 0;
 }
 

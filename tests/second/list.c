@@ -4,16 +4,45 @@
  *                   name number line kind MAST buyer seller price par
  *   list --lister   the desk's lister: standard input is a batch
  *   list --plain    each message's plain form under its name line, nothing where it is refused
- *   list --fields   name, then offset:length for the fields 1 to 21
+ *   list --fields   name, then offset:length for every field
  *   list --twice    as without, and each message is put through everything else:
  *                   plain form, plain form of the plain form, write, field, batch, and
  *                   buffers one byte short; prints only what does not agree
+ *
+ * By our own profile; with --pool before all else by the pool's, which has no lister.
  */
 #include "second.h"
 
 #include <string.h>
 
 static uint8_t input[1 << 22];
+
+/* Of a record, what is printed. */
+struct columns { int kind; const struct text *mast, *buyer, *seller; const struct amount *price, *par; };
+
+static struct columns our_columns(const union any_record *record)
+{
+    const struct record *r = &record->mt515;
+    return (struct columns){ r->kind, &r->mast, &r->buyer.code, &r->seller.code, &r->price.amount, &r->par.amount };
+}
+
+static struct columns pool_columns(const union any_record *record)
+{
+    const struct pool_record *r = &record->pool;
+    return (struct columns){ r->kind, &r->mast, &r->buyer.code, &r->seller.code, &r->price.amount, &r->par.amount };
+}
+
+/* By which profile, and what is known of it here. */
+static const struct known {
+    const struct profile *profile;
+    struct columns (*columns)(const union any_record *record);
+    unsigned fields;
+    size_t longest;
+    unsigned amounts[3];         /* fields that the plain form may change */
+} ours = { &second_mt515, our_columns, FIELDS, LONGEST_WRITTEN, { 9, 18, 0 } },
+  pools = { &second_pool, pool_columns, FIELDS_OF_POOL, LONGEST_OF_POOL, { 8, 9, 16 } };
+
+static const struct known *by = &ours;
 
 /* ---------------------------------------------------------------- printing */
 
@@ -25,29 +54,36 @@ static void print_text(const struct text *text)
         printf(" %.*s", (int)text->length, (const char *)text->bytes);
 }
 
+static void print_amount(const struct amount *amount)
+{
+    char text[WIDEST_AMOUNT + 8];
+    second_amount_text(amount, text);
+    printf(" %s", text);
+}
+
 static void print_message(const uint8_t *name, size_t wide, const uint8_t *message, size_t length)
 {
-    struct record record;
-    struct answer answer = second_read(message, length, &record);
+    union any_record record;
+    struct answer answer = second_read_by(by->profile, message, length, &record);
     printf("%.*s %d %zu", (int)wide, (const char *)name, answer.number, answer.line);
     if (answer.number != ACCEPTED) {
         fputs(" - - - - - -\n", stdout);
         return;
     }
-    char price[WIDEST_AMOUNT + 8], par[WIDEST_AMOUNT + 8];
-    second_amount_text(&record.price.amount, price);
-    second_amount_text(&record.par.amount, par);
-    printf(" %s", second_kind_text(record.kind));
-    print_text(&record.mast);
-    print_text(&record.buyer.code);
-    print_text(&record.seller.code);
-    printf(" %s %s\n", price, par);
+    struct columns columns = by->columns(&record);
+    printf(" %s", second_kind_text(columns.kind));
+    print_text(columns.mast);
+    print_text(columns.buyer);
+    print_text(columns.seller);
+    print_amount(columns.price);
+    print_amount(columns.par);
+    putchar('\n');
 }
 
 static void print_plain(const uint8_t *name, size_t wide, const uint8_t *message, size_t length)
 {
     uint8_t plain[LONGEST_WRITTEN];
-    struct written p = second_plain(message, length, plain, sizeof plain);
+    struct written p = second_plain_by(by->profile, message, length, plain, by->longest);
     printf("# %.*s\n", (int)wide, (const char *)name);
     fwrite(plain, 1, p.length, stdout);
 }
@@ -55,8 +91,8 @@ static void print_plain(const uint8_t *name, size_t wide, const uint8_t *message
 static void print_fields(const uint8_t *name, size_t wide, const uint8_t *message, size_t length)
 {
     printf("%.*s", (int)wide, (const char *)name);
-    for (unsigned f = 1; f <= FIELDS; f++) {
-        struct stretch s = second_field(message, length, f);
+    for (unsigned f = 1; f <= by->fields; f++) {
+        struct stretch s = second_field_by(by->profile, message, length, f);
         printf(" %zu:%zu", s.offset, s.length);
     }
     putchar('\n');
@@ -82,50 +118,82 @@ static int only(const uint8_t *bytes, size_t from, size_t to, uint8_t value)
     return 1;
 }
 
+/* Whether two records agree in every byte. */
+static int same(const union any_record *a, const union any_record *b) { return memcmp(a, b, sizeof *a) == 0; }
+
+/* A record whose every byte is set, and wrongly, so that all of it can be compared when it was read into. */
+static union any_record *set_wrong(union any_record *record) { return memset(record, 0x5A, sizeof *record); }
+
+static struct answer read_all(const uint8_t *message, size_t length, union any_record *record)
+{
+    return second_read_by(by->profile, message, length, set_wrong(record));
+}
+
+static void refused_twice(const uint8_t *name, size_t wide, const uint8_t *message, size_t length)
+{
+    for (unsigned f = 0; f <= by->fields + 3; f++) {
+        struct stretch s = second_field_by(by->profile, message, length, f);
+        demand(s.offset == 0 && s.length == 0, name, wide, "field of a refused message");
+    }
+}
+
+/* The fields of a message and of its plain form, each by itself and all at once. */
+static void fields_twice(const uint8_t *name, size_t wide, const uint8_t *message, size_t length,
+                         const uint8_t *plain, size_t plain_length)
+{
+    struct stretch all[MOST_FIELDS + 3];
+    second_fields_by(by->profile, message, length, all);
+    for (unsigned f = 0; f <= by->fields + 3; f++) {
+        struct stretch a = second_field_by(by->profile, message, length, f);
+        struct stretch b = second_field_by(by->profile, plain, plain_length, f);
+        struct stretch of_all = all[f <= by->fields ? f : 0];
+        demand(a.offset == of_all.offset && a.length == of_all.length, name, wide, "field differs among all");
+        demand(a.offset + a.length < length && (a.length > 0 || a.offset == 0), name, wide, "field outside the message");
+        demand((a.length > 0) == (b.length > 0), name, wide, "field absent in one form only");
+        if (f != by->amounts[0] && f != by->amounts[1] && f != by->amounts[2])
+            demand(a.length == b.length && memcmp(message + a.offset, plain + b.offset, a.length) == 0, name, wide,
+                   "field differs in the plain form");
+    }
+}
+
 static void print_twice(const uint8_t *name, size_t wide, const uint8_t *message, size_t length)
 {
     enum { ROOM = 1000 };
-    struct record record, again, blank;
+    union any_record record, again, blank;
     uint8_t plain[ROOM], second[ROOM];
-    struct answer answer = second_read(message, length, &record);
-    second_blank(&blank);
+    struct answer answer = read_all(message, length, &record);
+    second_blank_by(by->profile, set_wrong(&blank));
     memset(plain, 0xA5, ROOM);
     memset(second, 0xA5, ROOM);
-    struct written p = second_plain(message, length, plain, ROOM);
+    struct written p = second_plain_by(by->profile, message, length, plain, ROOM);
     demand(p.number == answer.number && p.line == answer.line, name, wide, "plain form answers another number or line");
 
     if (answer.number != ACCEPTED) {
-        demand(memcmp(&record, &blank, sizeof blank) == 0, name, wide, "no blank record beside a refusal");
+        demand(same(&record, &blank), name, wide, "no blank record beside a refusal");
         demand(p.length == 0 && only(plain, 0, ROOM, 0xA5), name, wide, "refused plain form changed a byte");
-        for (unsigned f = 0; f <= FIELDS + 1; f++) {
-            struct stretch s = second_field(message, length, f);
-            demand(s.offset == 0 && s.length == 0, name, wide, "field of a refused message");
-        }
+        refused_twice(name, wide, message, length);
         return;
     }
-    demand(p.length <= LONGEST_WRITTEN && only(plain, p.length, ROOM, 0xA5), name, wide, "plain form too long or bytes after it changed");
+    demand(p.length <= by->longest && only(plain, p.length, ROOM, 0xA5), name, wide,
+           "plain form too long or bytes after it changed");
 
-    struct written w = second_write(&record, second, LONGEST_WRITTEN);
+    struct written w = second_write_by(by->profile, &record, second, by->longest);
     demand(w.number == ACCEPTED && w.length == p.length && memcmp(plain, second, ROOM) == 0, name, wide, "write and plain form differ");
-    demand(second_read(plain, p.length, &again).number == ACCEPTED && memcmp(&again, &record, sizeof record) == 0, name, wide, "plain form reads as another record");
-    struct written pp = second_plain(plain, p.length, second, p.length);
+    demand(read_all(plain, p.length, &again).number == ACCEPTED && same(&again, &record), name, wide,
+           "plain form reads as another record");
+    struct written pp = second_plain_by(by->profile, plain, p.length, second, p.length);
     demand(pp.length == p.length && memcmp(plain, second, ROOM) == 0, name, wide, "plain form of the plain form differs");
 
     memset(second, 0x5A, ROOM);
-    w = second_write(&record, second, p.length - 1);
+    w = second_write_by(by->profile, &record, second, p.length - 1);
     demand(w.number == SHORT_BUFFER && w.length == 0 && only(second, 0, ROOM, 0x5A), name, wide, "short write");
-    w = second_plain(message, length, second, p.length - 1);
+    w = second_plain_by(by->profile, message, length, second, p.length - 1);
     demand(w.number == SHORT_BUFFER && w.line == 0 && w.length == 0 && only(second, 0, ROOM, 0x5A), name, wide, "short plain form");
 
-    for (unsigned f = 0; f <= FIELDS + 1; f++) {
-        struct stretch a = second_field(message, length, f), b = second_field(plain, p.length, f);
-        demand(a.offset + a.length < length && (a.length > 0 || a.offset == 0), name, wide, "field outside the message");
-        demand((a.length > 0) == (b.length > 0), name, wide, "field absent in one form only");
-        if (f != 9 && f != 18)      /* price and par */
-            demand(a.length == b.length && memcmp(message + a.offset, plain + b.offset, a.length) == 0, name, wide, "field differs in the plain form");
-    }
-    struct next n = second_next(message, length, 0, &again);
-    demand(n.state == NEXT_MESSAGE && n.answer.number == ACCEPTED && n.position == length && memcmp(&again, &record, sizeof record) == 0, name, wide, "batch of one");
+    fields_twice(name, wide, message, length, plain, p.length);
+    struct next n = second_next_by(by->profile, message, length, 0, set_wrong(&again));
+    demand(n.state == NEXT_MESSAGE && n.answer.number == ACCEPTED && n.position == length && same(&again, &record), name, wide,
+           "batch of one");
 }
 
 /* ---------------------------------------------------------------- input */
@@ -147,14 +215,19 @@ typedef void print(const uint8_t *name, size_t wide, const uint8_t *message, siz
 
 int main(int count, char **words)
 {
+    if (count > 1 && strcmp(words[1], "--pool") == 0) {
+        by = &pools;
+        count--;
+        words++;
+    }
     const char *option = count > 1 ? words[1] : "";
     int lister = strcmp(option, "--lister") == 0;
     print *print_one = strcmp(option, "--twice") == 0 ? print_twice
                      : strcmp(option, "--plain") == 0 ? print_plain
                      : strcmp(option, "--fields") == 0 ? print_fields
                      : print_message;
-    if (count > 2 || (count == 2 && !lister && print_one == print_message)) {
-        fputs("usage: list [--lister | --plain | --fields | --twice] < input\n", stderr);
+    if (count > 2 || (count == 2 && !lister && print_one == print_message) || (lister && by == &pools)) {
+        fputs("usage: list [--lister | [--pool] [--plain | --fields | --twice]] < input\n", stderr);
         return 2;
     }
     size_t length = fread(input, 1, sizeof input, stdin);

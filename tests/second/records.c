@@ -1,5 +1,6 @@
-/* records.c - writing: what a record must be, the order of refusals, and that a refused write changes no byte.
- * Also the batch at its ends. Prints only what fails. */
+/* records.c - writing: what a record must be, the order of refusals, and that a refused write changes no byte; then the batch at
+ * its ends. The same of the pool, beginning with P of request A1, which comes from a file. Prints only what fails.
+ * usage: records FILE */
 #include "bytes.h"
 
 #include <string.h>
@@ -20,6 +21,8 @@ static void text(struct text *t, const char *s)
     t->length = strlen(s);
     memcpy(t->bytes, s, t->length);
 }
+
+/* ---------------------------------------------------------------- writing, our own profile */
 
 /* Every field at its widest, of the kind asked for. */
 static struct record widest(int kind)
@@ -69,20 +72,29 @@ static void through_bytes(const struct record *r)
     demand(memcmp(r, &again, sizeof again) == 0, "the record's bytes give another record");
 }
 
-static struct written put(const struct record *r, size_t room)
+/* Writes a record of so many bytes, and reads what was written. */
+static struct written put_by(const struct profile *by, const void *r, size_t size, size_t room)
 {
     uint8_t buffer[1000];
     memset(buffer, 0x5A, sizeof buffer);
-    struct written w = second_write(r, buffer, room);
+    struct written w = second_write_by(by, r, buffer, room);
     size_t from = w.number == ACCEPTED ? w.length : 0;
     demand(w.line == 0 && (w.number == ACCEPTED || w.length == 0), "line or length beside a refusal");
     for (size_t i = from; i < sizeof buffer; i++)
         demand(buffer[i] == 0x5A, "a byte changed that must stand");
     if (w.number == ACCEPTED) {
-        struct record again;
-        through_bytes(r);
-        demand(second_read(buffer, w.length, &again).number == ACCEPTED && memcmp(&again, r, sizeof again) == 0, "what was written reads as another record");
+        union any_record again;
+        demand(second_read_by(by, buffer, w.length, &again).number == ACCEPTED && memcmp(&again, r, size) == 0,
+               "what was written reads as another record");
     }
+    return w;
+}
+
+static struct written put(const struct record *r, size_t room)
+{
+    struct written w = put_by(&second_mt515, r, sizeof *r, room);
+    if (w.number == ACCEPTED)
+        through_bytes(r);
     return w;
 }
 
@@ -90,7 +102,7 @@ static struct written put(const struct record *r, size_t room)
     demand(put(&r, 0).number == ((number_wanted) == 0 ? SHORT_BUFFER : (number_wanted)), #number_wanted " (no room): " #change); \
     demand(put(&r, LONGEST_WRITTEN).number == (number_wanted), #number_wanted ": " #change); } while (0)
 
-int main(void)
+static void writing(void)
 {
     static const size_t lengths[] = { 718, 770, 822, 699 };
     for (int kind = KIND_INST; kind <= KIND_TDDK; kind++) {
@@ -169,10 +181,13 @@ int main(void)
         GETS(kind == KIND_MDFC ? 0 : 15, text(&r.prev, "A"));
         GETS(kind == KIND_MDFC || kind == KIND_CANC ? 0 : 15, text(&r.list, "A"));
     }
+}
 
-    /* the batch at its ends */
-    struct record record, blank;
-    second_blank(&blank);
+/* ---------------------------------------------------------------- the batch at its ends, by either profile */
+
+static void batch_ends(const struct profile *by)
+{
+    union any_record record, blank;
     static const uint8_t batch[] = "X\n-\n-\r\r\n-\r\n\nX";
     static const struct { size_t from; int state, number; size_t line, to; } steps[] = {
         { 0, NEXT_MESSAGE, 4, 2, 4 }, { 1, NEXT_MESSAGE, 4, 2, 4 }, { 2, NEXT_MESSAGE, 4, 1, 4 }, { 3, NEXT_MESSAGE, 2, 2, 11 },
@@ -180,12 +195,206 @@ int main(void)
         { 12, NEXT_MESSAGE, 3, 1, 13 }, { 13, NEXT_DONE, 0, 0, 13 }, { 14, NEXT_PAST, 21, 0, 14 }, { (size_t)-1, NEXT_PAST, 21, 0, (size_t)-1 } };
     for (size_t i = 0; i < sizeof steps / sizeof steps[0]; i++) {
         memset(&record, 0x5A, sizeof record);
-        struct next n = second_next(batch, sizeof batch - 1, steps[i].from, &record);
+        memset(&blank, 0x5A, sizeof blank);
+        second_blank_by(by, &blank);
+        struct next n = second_next_by(by, batch, sizeof batch - 1, steps[i].from, &record);
         demand(n.state == steps[i].state && n.answer.number == steps[i].number && n.answer.line == steps[i].line && n.position == steps[i].to
                && memcmp(&record, &blank, sizeof blank) == 0, "batch step");
         if (n.position != steps[i].to || n.answer.number != steps[i].number || n.answer.line != steps[i].line)
             printf("  from %zu: %d at %zu, to %zu\n", steps[i].from, n.answer.number, n.answer.line, n.position);
     }
-    demand(second_next(NULL, 0, 0, &record).state == NEXT_DONE, "empty batch");
+    demand(second_next_by(by, NULL, 0, 0, &record).state == NEXT_DONE, "empty batch");
+}
+
+/* ---------------------------------------------------------------- P of request A1 */
+
+static char p[1000];             /* with LF endings, and ended by a zero byte */
+
+/* Its record, as the page says it. */
+static struct pool_record record_of_p(void)
+{
+    struct pool_record r;
+    second_blank_by(&second_pool, &r);
+    r.kind = KIND_INST;
+    text(&r.sender, "0017");
+    text(&r.reference, "0008");
+    text(&r.mast, "0017");
+    r.trade = (struct moment){ { 2024, 2, 29 }, { 0, 0, 0 } };
+    r.settlement = (struct date){ 2024, 3, 13 };
+    r.price.amount = (struct amount){ 995, 1 };
+    r.money_present = 1;
+    r.side = SIDE_BUYI;
+    text(&r.buyer.code, "0017");
+    text(&r.seller.code, "0015");
+    r.par.amount = (struct amount){ 1000000, 0 };
+    text(&r.identifier, "01F070633");
+    text(&r.pool, "123456");
+    r.cdry = 1;
+    r.ddte_present = 1;
+    r.ddte = (struct date){ 2024, 3, 13 };
+    return r;
+}
+
+/* Whether P, with one text in it for another, has this record. */
+static int reads_as(const char *old, const char *new, const struct pool_record *record)
+{
+    char changed[sizeof p + 100];
+    struct pool_record read;
+    const char *at = strstr(p, old);
+    if (!at)
+        return 0;
+    int length = snprintf(changed, sizeof changed, "%.*s%s%s", (int)(at - p), p, new, at + strlen(old));
+    struct answer answer = second_read_by(&second_pool, (const uint8_t *)changed, (size_t)length, &read);
+    return answer.number == ACCEPTED && answer.line == 0 && memcmp(&read, record, sizeof read) == 0;
+}
+
+static struct written pool_put(const struct pool_record *r, size_t room)
+{
+    return put_by(&second_pool, r, sizeof *r, room);
+}
+
+/* A record of the pool, changed, gets a number; without room it is 19 where it would be 0. */
+#define POOL_GETS(number_wanted, record, change) do { struct pool_record r = (record); change; \
+    demand(pool_put(&r, 0).number == ((number_wanted) == 0 ? SHORT_BUFFER : (number_wanted)), #number_wanted " (no room): " #change); \
+    demand(pool_put(&r, LONGEST_OF_POOL).number == (number_wanted), #number_wanted ": " #change); } while (0)
+
+static void of_p(void)
+{
+    struct pool_record r = record_of_p();
+    demand(reads_as("", "", &r), "the record of P");
+    demand(reads_as("USD0,00", "USD0,", &r), "P with USD0, has the record of P");
+    demand(pool_put(&r, LONGEST_OF_POOL).length == 574, "P has 574 bytes");
+    demand(pool_put(&r, 574).number == ACCEPTED, "room 574");
+    demand(pool_put(&r, 573).number == SHORT_BUFFER, "room 573");
+
+    r.money_present = 0;
+    demand(reads_as(":19A::SETT//USD0,00\n", "", &r), "P without its 19A line");
+    demand(pool_put(&r, LONGEST_OF_POOL).length == 574 - (sizeof ":19A::SETT//USD0,\r\n" - 1), "money absent: no 19A line");
+    r = record_of_p();
+    r.money.amount = (struct amount){ 125, 1 };
+    demand(reads_as("USD0,00", "USD0012,500", &r), "P with USD0012,500");
+
+    POOL_GETS(0, record_of_p(), (void)r);
+    POOL_GETS(18, record_of_p(), (r.money.amount = (struct amount){ 10, 1 }));
+    POOL_GETS(18, record_of_p(), (r.ddte = (struct date){ 2023, 2, 29 }));
+    POOL_GETS(0, record_of_p(), r.kind = KIND_CDRQ);
+    POOL_GETS(15, record_of_p(), (r.kind = KIND_CDRQ, text(&r.prev, "1")));
+    POOL_GETS(14, record_of_p(), text(&r.mast, ""));
+    POOL_GETS(18, record_of_p(), second_blank_by(&second_pool, &r));
+}
+
+/* ---------------------------------------------------------------- writing, the pool */
+
+/* Every field at its widest, of the kind asked for. */
+static struct pool_record pool_widest(int kind)
+{
+    struct pool_record r = record_of_p();
+    r.kind = kind;
+    text(&r.password, "ABCDEFGHIJKL");
+    text(&r.sender, "ABCDEFGH");
+    text(&r.reference, "ABCDEFGHIJKLMNOP");
+    text(&r.mast, "ABCDEFGHIJKLMNOP");
+    if (kind == KIND_CANC || kind == KIND_MDFC)
+        text(&r.prev, "ABCDEFGHIJKLMNOP");
+    if (kind != KIND_INST && kind != KIND_TDDK)
+        text(&r.list, "ABCDEFGHIJKLMNOP");
+    r.settlement = r.trade.date;
+    r.price.amount = (struct amount){ 99999999999999u, 0 };
+    r.money.amount = (struct amount){ 99999999999999u, 13 };
+    r.par.amount = (struct amount){ 1, 13 };
+    text(&r.pool, "ABCDEFGHI");
+    if (kind == KIND_TDDK) {
+        text(&r.seller.contra, "ABCDEFGHIJKLMNOP");
+        text(&r.dkrs, "ABCD");
+        r.cdry = 0;
+    }
+    return r;
+}
+
+/* What is 18 in every kind, in the places that the pool alone has; and some of the others. */
+static void pool_places(int kind)
+{
+    POOL_GETS(0, pool_widest(kind), text(&r.password, ""));
+    POOL_GETS(0, pool_widest(kind), text(&r.pool, ""));
+    POOL_GETS(0, pool_widest(kind), r.price.amount.digits = 0);
+    POOL_GETS(0, pool_widest(kind), (r.money.amount = (struct amount){ 0, 0 }));
+    POOL_GETS(0, pool_widest(kind), (r.money_present = 0, r.money.amount = (struct amount){ 0, 0 }));
+    POOL_GETS(0, pool_widest(kind), (r.ddte_present = 0, r.ddte = (struct date){ 0, 0, 0 }));
+    POOL_GETS(0, pool_widest(kind), (r.ddte = (struct date){ 1, 1, 1 }));
+    POOL_GETS(18, pool_widest(kind), r.kind = -1);
+    POOL_GETS(18, pool_widest(kind), r.kind = 6);
+    POOL_GETS(18, pool_widest(kind), r.side = 2);
+    POOL_GETS(18, pool_widest(kind), text(&r.sender, ""));
+    POOL_GETS(18, pool_widest(kind), r.reference.length = 15);
+    POOL_GETS(18, pool_widest(kind), text(&r.mast, "a"));
+    POOL_GETS(18, pool_widest(kind), text(&r.buyer.code, "001"));
+    POOL_GETS(18, pool_widest(kind), text(&r.seller.contra, "ABCDEFGHIJKLMNOPQ"));
+    POOL_GETS(18, pool_widest(kind), text(&r.identifier, ""));
+    POOL_GETS(18, pool_widest(kind), text(&r.pool, "ABCDEFGHIJ"));
+    POOL_GETS(18, pool_widest(kind), text(&r.dkrs, "ABCDE"));
+    POOL_GETS(18, pool_widest(kind), r.trade.time.hour = 24);
+    POOL_GETS(18, pool_widest(kind), r.settlement.month = 13);
+    POOL_GETS(18, pool_widest(kind), r.money_present = 0);
+    POOL_GETS(18, pool_widest(kind), (r.money_present = 0, r.money.amount = (struct amount){ 0, 1 }));
+    POOL_GETS(18, pool_widest(kind), r.money_present = 2);
+    POOL_GETS(18, pool_widest(kind), (r.money.amount = (struct amount){ 0, 1 }));
+    POOL_GETS(18, pool_widest(kind), (r.money.amount = (struct amount){ 1, 14 }));
+    POOL_GETS(18, pool_widest(kind), (r.money.amount = (struct amount){ 100000000000000u, 0 }));
+    POOL_GETS(18, pool_widest(kind), r.cdry = 2);
+    POOL_GETS(18, pool_widest(kind), r.ddte_present = 0);
+    POOL_GETS(18, pool_widest(kind), r.ddte_present = 2);
+    POOL_GETS(18, pool_widest(kind), (r.ddte = (struct date){ 0, 0, 0 }));
+    POOL_GETS(16, pool_widest(kind), (r.par.amount = (struct amount){ 0, 0 }, r.settlement.day = 28));
+    POOL_GETS(17, pool_widest(kind), r.settlement.day = 28);
+}
+
+/* The table of kinds, row by row. */
+static void pool_kinds(int kind)
+{
+    int dk = kind == KIND_TDDK, former = kind == KIND_CANC || kind == KIND_MDFC, listed = kind != KIND_INST && !dk;
+    POOL_GETS(dk ? 0 : 14, pool_widest(kind), text(&r.mast, ""));
+    POOL_GETS(former ? 0 : 15, pool_widest(kind), text(&r.prev, "A"));
+    POOL_GETS(listed ? 0 : 15, pool_widest(kind), text(&r.list, "A"));
+    POOL_GETS(dk ? 14 : 0, pool_widest(kind), text(&r.seller.contra, ""));
+    POOL_GETS(dk ? 0 : 15, pool_widest(kind), text(&r.seller.contra, "A"));
+    POOL_GETS(15, pool_widest(kind), text(&r.buyer.contra, "A"));
+    POOL_GETS(dk ? 14 : 0, pool_widest(kind), r.side = SIDE_SELL);
+    POOL_GETS(dk ? 0 : 15, pool_widest(kind), (r.side = SIDE_SELL, text(&r.seller.contra, ""), text(&r.buyer.contra, "A")));
+    POOL_GETS(dk ? 15 : 0, pool_widest(kind), r.cdry = 1);
+    POOL_GETS(0, pool_widest(kind), r.cdry = 0);
+    POOL_GETS(dk ? 14 : 0, pool_widest(kind), text(&r.dkrs, ""));
+    POOL_GETS(dk ? 0 : 15, pool_widest(kind), text(&r.dkrs, "E004"));
+    POOL_GETS(15, pool_widest(kind), (r.cdry = 1, text(&r.dkrs, "E004")));    /* a narrative of 40: 15 comes before 20 */
+    POOL_GETS(dk ? 14 : 15, pool_widest(kind), (text(&r.seller.contra, dk ? "" : "A"), r.par.amount = (struct amount){ 0, 0 }));
+}
+
+static void pool_writing(void)
+{
+    static const size_t lengths[] = { 648, 752, 752, 682, 700, 700 };
+    for (int kind = KIND_INST; kind <= KIND_CDRL; kind++) {
+        struct pool_record w = pool_widest(kind);
+        demand(pool_put(&w, LONGEST_OF_POOL).length == lengths[kind], "widest length by kind, pool");
+        demand(pool_put(&w, lengths[kind]).number == ACCEPTED, "exact room, pool");
+        demand(pool_put(&w, lengths[kind] - 1).number == SHORT_BUFFER, "one byte short, pool");
+        pool_places(kind);
+        pool_kinds(kind);
+    }
+}
+
+int main(int count, char **words)
+{
+    FILE *file = count == 2 ? fopen(words[1], "rb") : NULL;
+    if (!file) {
+        fputs("usage: records FILE, which has P\n", stderr);
+        return 2;
+    }
+    p[fread(p, 1, sizeof p - 1, file)] = 0;
+    fclose(file);
+
+    writing();
+    batch_ends(&second_mt515);
+    of_p();
+    pool_writing();
+    batch_ends(&second_pool);
     return failures > 0;
 }

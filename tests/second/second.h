@@ -1,5 +1,6 @@
-/* second.h - a second program for the MT515 of four kinds, written from document 01
- * and the readings of it, without sight of the first program's sources.
+/* second.h - a second program for the MT515 in two profiles, written without sight of
+ * the first program's sources: our own of four kinds, from document 01 and the readings
+ * of it, and the pool netting members' of six, from the page of request A1.
  *
  * It shares no code with the first program; it exists to be compared with it.
  * Nothing here takes memory from the heap and nothing keeps state between calls.
@@ -14,11 +15,13 @@
 enum {
     LONGEST_READ = 4096,      /* number 1: more is refused */
     LONGEST_WRITTEN = 822,    /* an MDFC with every field at its widest */
+    LONGEST_OF_POOL = 752,    /* a CANC or MDFC of the pool, likewise */
     LONGEST_LISTED = 65536,   /* the lister's input */
     DEEPEST = 8,              /* nesting */
     WIDEST_TEXT = 20,         /* TDID */
     WIDEST_AMOUNT = 15,       /* fourteen digits and a comma */
-    FIELDS = 21               /* slots with a value */
+    FIELDS = 21,              /* slots with a value */
+    FIELDS_OF_POOL = 19
 };
 
 /* "Numbers the desk gets back" */
@@ -47,8 +50,9 @@ enum {
     PAST_THE_END = 21
 };
 
-/* Code words, each list in the document's order; the blank record holds the first of each. */
-enum { KIND_INST, KIND_CANC, KIND_MDFC, KIND_TDDK };
+/* Code words, each list in the document's order; the blank record holds the first of each.
+ * The last two kinds are the pool's alone. */
+enum { KIND_INST, KIND_CANC, KIND_MDFC, KIND_TDDK, KIND_CDRQ, KIND_CDRL };
 enum { SIDE_BUYI, SIDE_SELL };
 enum { WORD_SBOD, WORD_TFTD, WORD_STIP };
 
@@ -65,9 +69,10 @@ struct amount {
     unsigned decimals;
 };
 
-/* Par and price have one form and are never taken for another. */
+/* Par, price and money have one form and are never taken for another. */
 struct par { struct amount amount; };
 struct price { struct amount amount; };
+struct money { struct amount amount; };
 
 struct date { unsigned year, month, day; };
 struct daytime { unsigned hour, minute, second; };
@@ -101,6 +106,33 @@ struct record {
     struct text dkrs;
 };
 
+struct pool_party {
+    struct text code;            /* 95R, exactly 4 c */
+    struct text contra;          /* 20C PROC, contra reference */
+};
+
+struct pool_record {
+    int kind;
+    struct text password;
+    struct text sender;
+    struct text reference;
+    struct text mast, prev, list;
+    struct moment trade;
+    struct date settlement;
+    struct price price;
+    int money_present;           /* 0 or 1; money of zero is present */
+    struct money money;          /* 19A */
+    int side;
+    struct pool_party buyer, seller;
+    struct par par;
+    struct text identifier;
+    struct text pool;
+    int cdry;                    /* 0 or 1 */
+    int ddte_present;            /* 0 or 1 */
+    struct date ddte;
+    struct text dkrs;
+};
+
 /* A number and a line, counted from 1; line 0 where the number has none. */
 struct answer { int number; size_t line; };
 
@@ -114,13 +146,32 @@ struct stretch { size_t offset; size_t length; };
 enum { NEXT_MESSAGE, NEXT_DONE, NEXT_PAST };
 struct next { int state; struct answer answer; size_t position; };
 
+/* The profiles. A record is a struct record by the first and a struct pool_record by the
+ * second; a profile has so many fields as its slots with a value, numbered from 1. */
+struct profile;
+extern const struct profile second_mt515, second_pool;
+
+/* Room for the record, and for the fields, of either. */
+union any_record { struct record mt515; struct pool_record pool; };
+enum { MOST_FIELDS = FIELDS };
+
+void second_blank_by(const struct profile *by, void *record);
+struct answer second_read_by(const struct profile *by, const uint8_t *message, size_t length, void *record);
+struct written second_plain_by(const struct profile *by, const uint8_t *message, size_t length, uint8_t *buffer, size_t room);
+struct written second_write_by(const struct profile *by, const void *record, uint8_t *buffer, size_t room);
+struct next second_next_by(const struct profile *by, const uint8_t *batch, size_t length, size_t position, void *record);
+struct stretch second_field_by(const struct profile *by, const uint8_t *message, size_t length, size_t field);
+
+/* All fields by their numbers: at 0 the empty one; behind the last the password, and behind that the sender. Answers as the read. */
+struct answer second_fields_by(const struct profile *by, const uint8_t *message, size_t length, struct stretch fields[MOST_FIELDS + 3]);
+
+/* The same of our own profile. */
 void second_blank(struct record *record);
 struct answer second_read(const uint8_t *message, size_t length, struct record *record);
 struct written second_plain(const uint8_t *message, size_t length, uint8_t *buffer, size_t room);
 struct written second_write(const struct record *record, uint8_t *buffer, size_t room);
 struct next second_next(const uint8_t *batch, size_t length, size_t position, struct record *record);
 struct stretch second_field(const uint8_t *message, size_t length, unsigned field);
-void second_fields(const uint8_t *message, size_t length, struct stretch fields[FIELDS + 1]);   /* by number; at 0 the empty one */
 
 /* The shortest form of an amount, ended by a zero byte. */
 void second_amount_text(const struct amount *amount, char out[WIDEST_AMOUNT + 8]);
