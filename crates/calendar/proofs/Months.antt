@@ -1,33 +1,18 @@
--- The mathematics of the days of a month, over plain numbers.
+-- The rule for the days of a month gives what the list of them gave, for every year and every number.
 -- Assumes nothing.
-use Prim.Native.Nat.{ℕ, zero, suc, _≤_, _<_}
+use Prim.Native.Nat.{ℕ, zero, suc, _<_, _≤_}
 use mathlib.Core.Path.{_≡_, refl, sym}
-use mathlib.Core.Bool.{Bool, true, false, _&&_, _||_}
-use mathlib.Core.List.{[], _∷_}
-use mathlib.Core.Logic.{_⊎_, inl, inr, ⊎-elim}
+use mathlib.Core.Bool.{Bool, true, false, _&&_, not, cond}
 use native.Mathlib.Nat.{not-suc-le-zero}
 use native.Mathlib.Omega.{arith}
-use lib.Dec.{eqb}
+use lib.Dec.{eqb, leb}
 use lib.ListN.{getD, List·getD-eq-default}
-use types.Run.{OneOf}
-use borrow.Author.Tests.{ne-eqb, eqb-true, eqb-false}
+use borrow.Author.Tests.{ne-eqb, eqb-true, eqb-false, le-leb, lt-leb, leb-true, leb-false}
 use Rattle.text.proofs.Laws.{and-left, and-right}
-use Rattle.calendar.specs.Dates.{lengths, monthLength}
+use Rattle.calendar.specs.Dates.{leap, isMonth, february, isLong, monthLength}
+use Rattle.calendar.specs.Cases.{lengths, listed, AsListed}
 
-pub no-month : (y m : ℕ) → 12 < m → 0 ≡ monthLength y m
-unfolding monthLength lengths
-no-month y m h =
-    let e : m ≡ 2 → ⊥ = λ f. omega arith in
-    rw (ne-eqb m 2 e, List·getD-eq-default lengths 0 h)
-
-pub thirty : (y m : ℕ) → OneOf (4 ∷ 6 ∷ 9 ∷ 11 ∷ []) m → 30 ≡ monthLength y m
-unfolding monthLength lengths
-thirty y m h = ⊎-elim (λ e. rw e) (⊎-elim (λ e. rw e) (⊎-elim (λ e. rw e) (λ e. rw e))) h
-
--- the months that are left: what is right of each number up to twelve is right of all
-leftover : ℕ → Bool
-leftover m = eqb m 0 || (eqb m 2 || (eqb m 4 || (eqb m 6 || (eqb m 9 || (eqb m 11 || eqb (getD lengths m 0) 31)))))
-
+-- what is right of each number below another is right of all of them
 each : (ℕ → Bool) → ℕ → Bool
 each t zero = true
 each t (suc n) = t n && each t n
@@ -41,9 +26,28 @@ each-at t (suc n) e m h = go (each-at t n (and-right (t n) _ e) m) (eqb m n) ref
     go ih true f = rw (eqb-true m n f) (and-left _ _ e)
     go ih false f = let d = eqb-false m n f in ih (omega arith)
 
-pub most : (y m : ℕ) → m ≤ 12 → (m ≡ 0 → ⊥) → (m ≡ 2 → ⊥) → (OneOf (4 ∷ 6 ∷ 9 ∷ 11 ∷ []) m → ⊥) → 31 ≡ monthLength y m
-unfolding monthLength lengths leftover each
-most y m h a b c =
-    let l : leftover m ≡ true = each-at leftover 13 refl m (omega arith) in
-    let r = rw (ne-eqb m 0 a, ne-eqb m 2 b, ne-eqb m 4 (λ e. c (inl e)), ne-eqb m 6 (λ e. c (inr (inl e))), ne-eqb m 9 (λ e. c (inr (inr (inl e)))), ne-eqb m 11 (λ e. c (inr (inr (inr e))))) at l in
-    rw (ne-eqb m 2 b) (sym (eqb-true (getD lengths m 0) 31 r))
+-- both sides of a number in a year that is a leap year or not
+ruled : Bool → ℕ → ℕ
+ruled b m = cond (not (isMonth m)) 0 (cond (eqb m 2) (cond b 29 28) (cond (isLong m) 31 30))
+
+held : Bool → ℕ → ℕ
+held b m = cond (eqb m 2 && b) 29 (getD lengths m 0)
+
+months-agree : (b : Bool) (m : ℕ) → m ≤ 12 → ruled b m ≡ held b m
+unfolding each isMonth isLong lengths ruled held
+months-agree true m h = eqb-true _ _ (each-at (λ n. eqb (ruled true n) (held true n)) 13 refl m (omega arith))
+months-agree false m h = eqb-true _ _ (each-at (λ n. eqb (ruled false n) (held false n)) 13 refl m (omega arith))
+
+others-agree : (b : Bool) (m : ℕ) → 12 < m → ruled b m ≡ held b m
+unfolding isMonth ruled held lengths
+others-agree b m h =
+    let e : m ≡ 2 → ⊥ = λ f. omega arith in
+    rw (le-leb 1 m (omega arith), lt-leb m 12 h, ne-eqb m 2 e, List·getD-eq-default lengths 0 h)
+
+pub as-listed : AsListed
+unfolding monthLength february listed ruled held
+as-listed y m = go (leb m 12) refl
+  where
+    go : (b : Bool) → leb m 12 ≡ b → monthLength y m ≡ listed y m
+    go true e = months-agree (leap y) m (leb-true m 12 e)
+    go false e = others-agree (leap y) m (leb-false m 12 e)

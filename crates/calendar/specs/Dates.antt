@@ -4,7 +4,7 @@ use Prim.Native.Nat.{ℕ, _+_, _*_, _/_, _%_}
 use mathlib.Core.Bool.{Bool, _&&_, _||_, not, cond}
 use mathlib.Core.List.{List, [], _∷_}
 use lib.Dec.{leb, ltb, eqb}
-use lib.ListN.{getD, take, drop}
+use lib.ListN.{take, drop}
 use Rattle.digits.specs.Numerals.{numeral, digits, wideNumber}
 use Rattle.digits.specs.declared.Number.{Number}
 use Rattle.digits.specs.declared.Number.the-variants.{Is, Not}
@@ -28,12 +28,22 @@ day n = n % 100
 unfoldable pub leap : ℕ → Bool
 leap y = eqb (y % 4) 0 && (not (eqb (y % 100) 0) || eqb (y % 400) 0)
 
--- the days of each month of a common year, January at 1
-unfoldable pub lengths : List ℕ
-lengths = 0 ∷ 31 ∷ 28 ∷ 31 ∷ 30 ∷ 31 ∷ 30 ∷ 31 ∷ 31 ∷ 30 ∷ 31 ∷ 30 ∷ 31 ∷ []
+-- a number that names a month
+unfoldable pub isMonth : ℕ → Bool
+isMonth m = leb 1 m && leb m 12
 
+-- the days of February in a year
+unfoldable pub february : ℕ → ℕ
+february y = cond (leap y) 29 28
+
+-- up to July the odd months are long, from August on the even ones
+unfoldable pub isLong : ℕ → Bool
+isLong m = cond (leb m 7) (eqb (m % 2) 1) (eqb (m % 2) 0)
+
+-- the days of a month: none of a number that names no month, those of February by the year, and of any other month by whether it
+-- is long
 unfoldable pub monthLength : ℕ → ℕ → ℕ
-monthLength y m = cond (eqb m 2 && leap y) 29 (getD lengths m 0)
+monthLength y m = cond (not (isMonth m)) 0 (cond (eqb m 2) (february y) (cond (isLong m) 31 30))
 
 -- a year, a month and a day that the month has
 abbrev pub isDay : ℕ → ℕ → ℕ → Bool

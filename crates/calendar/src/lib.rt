@@ -9,7 +9,7 @@ ghost use mathlib.Core.Bool.{true};
 ghost use lib.ListN.{length, take, drop};
 ghost use Rattle.digits.specs.Numerals.{numeral, digitsAlone};
 ghost use Rattle.text.specs.Copy.{placed, after};
-ghost use Rattle.calendar.specs.Dates.{leap, monthLength, isDay, isDate, isTime, isMoment, earlier, two, dateFrom, timeFrom, dateRead, dateNumber, momentRead, momentNumber, dateText, momentText};
+ghost use Rattle.calendar.specs.Dates.{leap, isMonth, isLong, february, monthLength, isDay, isDate, isTime, isMoment, earlier, two, dateFrom, timeFrom, dateRead, dateNumber, momentRead, momentNumber, dateText, momentText};
 
 // A date as the number YYYYMMDD that its digits spell.
 pub struct Date(pub u64);
@@ -68,19 +68,43 @@ pub fn is_leap(year: u64) -> bool
     year % 400 == 0
 }
 
-// The days of a month; a number that names no month has none.
+// A number that names a month.
+fn is_month(month: usize) -> bool
+    ensures { λ r. ⌜ r ≡ isMonth month ⌝ }
+{
+    1 <= month && month <= 12
+}
+
+// The days of February in a year.
+fn february(year: u64) -> u64
+    ensures { λ r. ⌜ r ≡ february year ⌝ }
+{
+    if is_leap(year) { 29 } else { 28 }
+}
+
+// Up to July the odd months are long, from August on the even ones.
+fn is_long(month: usize) -> bool
+    ensures { λ r. ⌜ r ≡ isLong month ⌝ }
+{
+    if month <= 7 {
+        month % 2 == 1
+    } else {
+        month % 2 == 0
+    }
+}
+
+// The days of a month: none of a number that names no month, those of February by the year, and of any other month by whether it is
+// long.
 pub fn month_length(year: u64, month: usize) -> u64
     ensures { λ r. ⌜ r ≡ monthLength year month ⌝ }
 {
-    if 12 < month {
+    if !is_month(month) {
         return 0;
     }
-    match month {
-        0 => 0,
-        2 => { if is_leap(year) { 29 } else { 28 } }
-        4 | 6 | 9 | 11 => 30,
-        _ => 31,
+    if month == 2 {
+        return february(year);
     }
+    if is_long(month) { 31 } else { 30 }
 }
 
 // A year, a month and a day name a day of the calendar.

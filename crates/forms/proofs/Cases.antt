@@ -4,7 +4,7 @@ use mathlib.Core.Path.{refl}
 use Rattle.text.specs.Bytes.{bytes, begins, same, before}
 use Rattle.text.specs.Classes.{allIn, inClass, isC, isUpper, isDigit, isBetween, isCode}
 use Rattle.digits.specs.Numerals.{wideNumber, numberOf, numeral, numeralFrom}
-use Rattle.calendar.specs.Dates.{year, month, day, leap, lengths, monthLength, isDate, dateFrom, dateRead}
+use Rattle.calendar.specs.Dates.{year, month, day, leap, isMonth, february, isLong, monthLength, isDate, dateFrom, dateRead}
 use Rattle.reason.specs.Reason.{hasReason, reasonIn, goodReason}
 use Rattle.forms.specs.Words.{wordAt, isWord}
 use Rattle.forms.specs.Narrative.{serviceIn, hasPeriod, periodIn, behindPeriod, goodPeriod, isNarrative}
@@ -20,7 +20,7 @@ unfolding cases bytes begins same allIn inClass isC isUpper isDigit isBetween is
 answered = refl
 
 pub pool-answered : Pool.Answered
-unfolding Pool.cases bytes begins before allIn inClass isC isUpper isDigit isBetween isCode hasReason reasonIn goodReason hasCdr behindCdr hasDelivery deliveryIn behindDelivery isPoolShape poolNumber wideNumber numberOf numeral numeralFrom dateRead dateFrom isDate year month day monthLength leap lengths
+unfolding Pool.cases bytes begins before allIn inClass isC isUpper isDigit isBetween isCode hasReason reasonIn goodReason hasCdr behindCdr hasDelivery deliveryIn behindDelivery isPoolShape poolNumber wideNumber numberOf numeral numeralFrom dateRead dateFrom isDate year month day leap isMonth february isLong monthLength
 pool-answered = refl
 
 pub held : Held

@@ -5,7 +5,7 @@ use Rattle.text.specs.Bytes.{bytes}
 use Rattle.text.specs.Classes.{isBetween, isDigit, isUpper, isC, inClass, allIn, isCode}
 use Rattle.text.specs.Texts.{contents, textOf, inForm as textForm}
 use Rattle.amount.specs.Amounts.{inForm as amountForm}
-use Rattle.calendar.specs.Dates.{year, month, day, leap, lengths, monthLength, isDate, isTime, isMoment, earlier}
+use Rattle.calendar.specs.Dates.{year, month, day, leap, isMonth, february, isLong, monthLength, isDate, isTime, isMoment, earlier}
 use Rattle.digits.specs.Numerals.{digits}
 use Rattle.lines.specs.Verdicts.{refused, pass, then, when}
 use Rattle.trade.specs.Records.{nobody, never, blankTrade}
@@ -25,5 +25,5 @@ use Rattle.format.specs.Writing.{judgeOf}
 use Rattle.judge.specs.Cases.{trade, cases, Answered}
 
 pub answered : Answered
-unfolding b trade cases bytes isBetween isDigit isUpper isC inClass allIn contents textOf textForm amountForm year month day leap lengths monthLength isDate isTime isMoment earlier digits refused pass then nobody never blankTrade other own contra stray lacksField tddkOnly tddkNever hasForbidden when recordPass kindWord sideWord serviceWord periodText reasonText narrative values valueOf prepForm periodForm reasonForm tests hold inForm judgeOf fitted isCode unless formNumber slotOf slots fieldSlots ownSlots memberSlots slotsOf firstSlots mustSlots tree general pool details has
+unfolding b trade cases bytes isBetween isDigit isUpper isC inClass allIn contents textOf textForm amountForm year month day leap isMonth february isLong monthLength isDate isTime isMoment earlier digits refused pass then nobody never blankTrade other own contra stray lacksField tddkOnly tddkNever hasForbidden when recordPass kindWord sideWord serviceWord periodText reasonText narrative values valueOf prepForm periodForm reasonForm tests hold inForm judgeOf fitted isCode unless formNumber slotOf slots fieldSlots ownSlots memberSlots slotsOf firstSlots mustSlots tree general pool details has
 answered = refl

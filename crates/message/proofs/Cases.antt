@@ -20,7 +20,7 @@ use Rattle.trade.specs.Records.{nobody, never, blankTrade}
 use Rattle.lines.specs.Lines.{joined}
 use Rattle.lines.specs.Verdicts.{refused, pass, then, when}
 use Rattle.kinds.specs.Kinds.{other, own, contra, stray, functionOf, lacksField, tddkOnly, tddkNever, hasForbidden, recordPass}
-use Rattle.calendar.specs.Dates.{year, month, day, leap, lengths, monthLength, isDate, isTime, earlier, isMoment, dateText, momentText}
+use Rattle.calendar.specs.Dates.{year, month, day, leap, isMonth, february, isLong, monthLength, isDate, isTime, earlier, isMoment, dateText, momentText}
 use Rattle.amount.specs.Amounts.{whole, decimals, trimmed, keptBefore, shortened, tidy, inForm as inForm-amounts, spread, amountText}
 use Rattle.digits.specs.Numerals.{digits, tenTo}
 use Rattle.text.specs.Bytes.{bytes, before}
@@ -28,5 +28,5 @@ use Rattle.text.specs.Classes.{isBetween, isDigit, isUpper, isC, inClass, allIn
 use Rattle.text.specs.Texts.{contents, textOf, inForm as inForm-texts}
 
 pub answered : Answered
-unfolding b broadest messages writes nobody never blankTrade joined behindIn headLine linesFor messageOf writeNumber writeLength kindWord sideWord serviceWord periodText reasonText narrative values valueOf optional slotsOf memberSlots ownSlots fieldSlots mustSlots firstSlots has prepForm periodForm reasonForm tests hold inForm judgeOf slots header slotOf general pool details tree lineOf linesIn some anyField anyMember anyIn filledFields filledMembers filled refused pass then other own contra stray functionOf lacksField tddkOnly tddkNever hasForbidden when recordPass year month day leap lengths monthLength isDate isTime earlier isMoment dateText momentText whole decimals trimmed keptBefore shortened tidy inForm-amounts spread amountText digits tenTo bytes before isBetween isDigit isUpper isC inClass allIn contents textOf inForm-texts fitted isCode unless formNumber
+unfolding b broadest messages writes nobody never blankTrade joined behindIn headLine linesFor messageOf writeNumber writeLength kindWord sideWord serviceWord periodText reasonText narrative values valueOf optional slotsOf memberSlots ownSlots fieldSlots mustSlots firstSlots has prepForm periodForm reasonForm tests hold inForm judgeOf slots header slotOf general pool details tree lineOf linesIn some anyField anyMember anyIn filledFields filledMembers filled refused pass then other own contra stray functionOf lacksField tddkOnly tddkNever hasForbidden when recordPass year month day leap isMonth february isLong monthLength isDate isTime earlier isMoment dateText momentText whole decimals trimmed keptBefore shortened tidy inForm-amounts spread amountText digits tenTo bytes before isBetween isDigit isUpper isC inClass allIn contents textOf inForm-texts fitted isCode unless formNumber
 answered = (refl, refl, refl)

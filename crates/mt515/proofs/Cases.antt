@@ -30,7 +30,7 @@ use Rattle.typed.specs.Sides.{sideIn}
 use Rattle.trade.specs.Records.{kindIn, partyOf, tradeOf, nobody, never, blankTrade}
 use Rattle.trade.specs.declared.Trade.{Trade}
 use Rattle.kinds.specs.Kinds.{other, own, contra, stray, functionOf, lacksField, tddkOnly, tddkNever, hasForbidden, recordPass, kindsPass}
-use Rattle.calendar.specs.Dates.{year, month, day, leap, lengths, monthLength, isDate, isTime, earlier, isMoment, dateFrom, dateRead, momentOf, momentFrom, momentRead, dateText, momentText}
+use Rattle.calendar.specs.Dates.{year, month, day, leap, isMonth, february, isLong, monthLength, isDate, isTime, earlier, isMoment, dateFrom, dateRead, momentOf, momentFrom, momentRead, dateText, momentText}
 use Rattle.amount.specs.Amounts.{whole, decimals, isAmount, trimmed, keptBefore, shortened, tidy, meaningOf, meaning, amountRead, inForm, spread, amountText, partsRead, noughts}
 use Rattle.digits.specs.Numerals.{numeralFrom, numeral, digits, numberOf, wideNumber, tenTo}
 use Rattle.text.specs.Bytes.{bytes, begins, same, before, parts}
@@ -48,7 +48,7 @@ second : Trade → ℕ
 second t = getD (t .mast .bytes) 1 0
 
 pub answered : Answered
-unfolding long second Any.reading Any.bodyOf Any.valueOn Any.rulesOf Any.verdictOf Any.readOf headVerdict headPass headValue bodyPass takenIn b ended without with behind exchanged cases Unlike AllUnlike tradeOfB readOf general pool details tree slots header slotOf valueVerdict valuesPass valueFrom inFront cutBehind bare withoutEnding linesOf ended-lines sizePass mayStand bytePass endPass linesPass lineAt refused pass then isTagged nameOf named roleOf ending opening closing turn follow nest nestPass withTaken fit next seek laterField tell moveOf following walk takenBy chain has lacking isCode wordAt isWord unless formNumber valueNumber serviceIn hasPeriod periodIn behindPeriod hasReason reasonIn goodPeriod goodReason isNarrative serviceOf periodOf kindIn sideIn partyOf tradeOf nobody never blankTrade other own contra stray functionOf lacksField tddkOnly tddkNever hasForbidden when recordPass kindsPass year month day leap lengths monthLength isDate isTime earlier isMoment dateFrom dateRead momentOf momentFrom momentRead dateText momentText whole decimals isAmount trimmed keptBefore shortened tidy meaningOf meaning amountRead inForm spread amountText partsRead noughts numeralFrom numeral digits numberOf wideNumber tenTo bytes begins same before parts isBetween isDigit isUpper isC inClass allIn contents textOf inForm-texts
+unfolding long second Any.reading Any.bodyOf Any.valueOn Any.rulesOf Any.verdictOf Any.readOf headVerdict headPass headValue bodyPass takenIn b ended without with behind exchanged cases Unlike AllUnlike tradeOfB readOf general pool details tree slots header slotOf valueVerdict valuesPass valueFrom inFront cutBehind bare withoutEnding linesOf ended-lines sizePass mayStand bytePass endPass linesPass lineAt refused pass then isTagged nameOf named roleOf ending opening closing turn follow nest nestPass withTaken fit next seek laterField tell moveOf following walk takenBy chain has lacking isCode wordAt isWord unless formNumber valueNumber serviceIn hasPeriod periodIn behindPeriod hasReason reasonIn goodPeriod goodReason isNarrative serviceOf periodOf kindIn sideIn partyOf tradeOf nobody never blankTrade other own contra stray functionOf lacksField tddkOnly tddkNever hasForbidden when recordPass kindsPass year month day leap isMonth february isLong monthLength isDate isTime earlier isMoment dateFrom dateRead momentOf momentFrom momentRead dateText momentText whole decimals isAmount trimmed keptBefore shortened tidy meaningOf meaning amountRead inForm spread amountText partsRead noughts numeralFrom numeral digits numberOf wideNumber tenTo bytes begins same before parts isBetween isDigit isUpper isC inClass allIn contents textOf inForm-texts
 answered = (
   refl,
   refl,

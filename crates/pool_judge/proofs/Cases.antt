@@ -5,7 +5,7 @@ use Rattle.text.specs.Bytes.{bytes}
 use Rattle.text.specs.Classes.{isBetween, isDigit, isUpper, isC, inClass, allIn, isCode}
 use Rattle.text.specs.Texts.{contents, textOf, inForm as textForm}
 use Rattle.amount.specs.Amounts.{inForm as amountForm}
-use Rattle.calendar.specs.Dates.{year, month, day, leap, lengths, monthLength, isDate, isTime, isMoment, earlier, dateText}
+use Rattle.calendar.specs.Dates.{year, month, day, leap, isMonth, february, isLong, monthLength, isDate, isTime, isMoment, earlier, dateText}
 use Rattle.digits.specs.Numerals.{digits}
 use Rattle.lines.specs.Verdicts.{refused, pass, then, when}
 use Rattle.reason.specs.Reason.{reasonText, reasonForm}
@@ -25,5 +25,5 @@ use Rattle.format.specs.Writing.{judgeOf}
 use Rattle.pool_judge.specs.Cases.{trade, cases, Answered}
 
 pub answered : Answered
-unfolding p trade cases bytes isBetween isDigit isUpper isC inClass allIn isCode contents textOf textForm amountForm year month day leap lengths monthLength isDate isTime isMoment earlier dateText digits refused pass then when reasonText reasonForm unless formNumber paymentForm fieldSlots ownSlots memberSlots slotsOf firstSlots mustSlots has nobody blankTrade other own contra stray needs there someOf lacksField hasForbidden recordPass slots slotOf general security details tree cdrText deliveryText narrative values valueOf fitted hold deliveryForm tests inForm judgeOf
+unfolding p trade cases bytes isBetween isDigit isUpper isC inClass allIn isCode contents textOf textForm amountForm year month day leap isMonth february isLong monthLength isDate isTime isMoment earlier dateText digits refused pass then when reasonText reasonForm unless formNumber paymentForm fieldSlots ownSlots memberSlots slotsOf firstSlots mustSlots has nobody blankTrade other own contra stray needs there someOf lacksField hasForbidden recordPass slots slotOf general security details tree cdrText deliveryText narrative values valueOf fitted hold deliveryForm tests inForm judgeOf
 answered = refl
