@@ -47,6 +47,13 @@ functionOf Kind.Tddk = bytes "NEWM"
 functionOf Kind.Cdrq = bytes "NEWM"
 functionOf Kind.Cdrl = bytes "NEWM"
 
+-- the letters `M` and `-` of what follows, as bytes
+abbrev pub mandatory : ℕ
+mandatory = 77
+
+abbrev pub forbidden : ℕ
+forbidden = 45
+
 -- what a kind must have (M), may have (O) and may not have (-), in this order: MAST, PREV, LIST, a contra reference in the other side's
 -- block and in its own side's, CDRY, DKRS. DDTE, 19A and FIA may stand in every kind
 unfoldable pub needs : Kind → List ℕ
@@ -69,10 +76,10 @@ someOf letter is (n ∷ ns) [] = false
 someOf letter is (n ∷ ns) (h ∷ hs) = (eqb n letter && cond is h (not h)) || someOf letter is ns hs
 
 unfoldable pub lacksField : PoolTrade → Bool
-lacksField t = someOf 77 false (needs (t .kind)) (there t)
+lacksField t = someOf mandatory false (needs (t .kind)) (there t)
 
 unfoldable pub hasForbidden : PoolTrade → Bool
-hasForbidden t = someOf 45 true (needs (t .kind)) (there t)
+hasForbidden t = someOf forbidden true (needs (t .kind)) (there t)
 
 -- 14 to 17, which a record shows by itself
 unfoldable pub recordPass : PoolTrade → Verdict
