@@ -12,7 +12,8 @@ use borrow.Author.Tests.{leb-true, ne-eqb, lt-ltb, le-ltb, ltb-true, ltb-false}
 use Rattle.text.specs.Bytes.{before}
 use Rattle.text.proofs.Laws.{and-left, and-right}
 use Rattle.text.proofs.Bools.{eqb-turn}
-use Rattle.layout.specs.Rows.{Row, field, opens, closes, many, mark, back, ends, rowOf, textAt, firstRow, rowsOf}
+use Rattle.layout.specs.Rows.{Row, field, opens, closes, many, mark, back, ends, bar, rowOf, textAt, firstRow, rowsOf}
+use Rattle.layout.proofs.ByKind.{by-kind}
 use Rattle.layout.proofs.Laws.{row-next, row-none, row-at, text-at, text-none}
 use Rattle.sheets.specs.Filled.{some}
 use Rattle.fill.specs.Runs.{overRun, behindRun}
@@ -68,33 +69,16 @@ unfolding lower
 lower-is zero h = absurd (h refl)
 lower-is (suc n) h = omega arith
 
--- a statement of every row holds, where it holds of each kind
-by-kind : (P : ℕ → Row → Type 0) (s : ℕ) (k : List ℕ) → P 0 ends → P 1 (field true s k) → P 2 (field false s k) → P 3 (opens true k) → P 4 (opens false k)
-    → P 5 (closes k) → P 6 (many false true k) → P 7 (many true false k) → P 8 (mark s k) → P 9 (back k)
-    → ((n : ℕ) → 9 < n → P n ends) → (n : ℕ) → P n (rowOf n s k)
-unfolding rowOf
-by-kind P s k a b c d e f g h i j o zero = a
-by-kind P s k a b c d e f g h i j o (suc zero) = b
-by-kind P s k a b c d e f g h i j o (suc (suc zero)) = c
-by-kind P s k a b c d e f g h i j o (suc (suc (suc zero))) = d
-by-kind P s k a b c d e f g h i j o (suc (suc (suc (suc zero)))) = e
-by-kind P s k a b c d e f g h i j o (suc (suc (suc (suc (suc zero))))) = f
-by-kind P s k a b c d e f g h i j o (suc (suc (suc (suc (suc (suc zero)))))) = g
-by-kind P s k a b c d e f g h i j o (suc (suc (suc (suc (suc (suc (suc zero))))))) = h
-by-kind P s k a b c d e f g h i j o (suc (suc (suc (suc (suc (suc (suc (suc zero)))))))) = i
-by-kind P s k a b c d e f g h i j o (suc (suc (suc (suc (suc (suc (suc (suc (suc zero))))))))) = j
-by-kind P s k a b c d e f g h i j o (suc (suc (suc (suc (suc (suc (suc (suc (suc (suc n)))))))))) = o (suc (suc (suc (suc (suc (suc (suc (suc (suc (suc n)))))))))) (omega arith)
-
 -- a number above all kinds is none of them
 abbrev kinds : List ℕ → Bool
 kinds [] = true
-kinds (n ∷ ns) = leb n 9 && kinds ns
+kinds (n ∷ ns) = leb n 11 && kinds ns
 
-none-above : (ns : List ℕ) (m : ℕ) → kinds ns ≡ true → 9 < m → isAny ns m ≡ false
+none-above : (ns : List ℕ) (m : ℕ) → kinds ns ≡ true → 11 < m → isAny ns m ≡ false
 none-above [] m e h = refl
 none-above (n ∷ ns) m e h =
-    let l = leb-true n 9 (and-left _ _ e) in
-    rw (ne-eqb m n (λ z. let w : ⊥ = omega arith in w)) (none-above ns m (and-right (leb n 9) _ e) h)
+    let l = leb-true n 11 (and-left _ _ e) in
+    rw (ne-eqb m n (λ z. let w : ⊥ = omega arith in w)) (none-above ns m (and-right (leb n 11) _ e) h)
 
 -- ---- what the code does, by the number of the kind
 
@@ -103,14 +87,14 @@ module _ (s : ℕ) (k : List ℕ) where
   unfolding deeper
   deeper-by n d =
       by-kind (λ m r. deeper r d ≡ cond (isAny (3 ∷ 4 ∷ 8 ∷ []) m) (suc d) (cond (isAny (5 ∷ 9 ∷ []) m) (lower d) d)) s k
-      refl refl refl refl refl refl refl refl refl refl
+      refl refl refl refl refl refl refl refl refl refl refl refl
       (λ m h. rw (none-above (3 ∷ 4 ∷ 8 ∷ []) m refl h, none-above (5 ∷ 9 ∷ []) m refl h)) n
 
   pub has-by : (value : ℕ → List ℕ) (n : ℕ) → hasValue value (rowOf n s k) ≡ cond (isAny (1 ∷ 2 ∷ []) n) (some (value s)) (cond (eqb n 8) (some (value s)) false)
   unfolding hasValue
   has-by value n =
       by-kind (λ m r. hasValue value r ≡ cond (isAny (1 ∷ 2 ∷ []) m) (some (value s)) (cond (eqb m 8) (some (value s)) false)) s k
-      refl refl refl refl refl refl refl refl refl refl
+      refl refl refl refl refl refl refl refl refl refl refl refl
       (λ m h. rw (none-above (1 ∷ 2 ∷ []) m refl h, ne-eqb m 8 (λ z. let w : ⊥ = omega arith in w))) n
 
   pub stands-by : (value : ℕ → List ℕ) (rows : List Row) (n : ℕ)
@@ -118,7 +102,7 @@ module _ (s : ℕ) (k : List ℕ) where
   unfolding stands
   stands-by value rows n =
       by-kind (λ m r. stands value rows r ≡ cond (isHeld m) (eqb m 1 || some (value s)) (cond (isEdge m) (cond (eqb m 4) (anyRows value 1 rows) true) true)) s k
-      refl refl refl refl refl refl refl refl refl refl
+      refl refl refl refl refl refl refl refl refl refl refl refl
       (λ m h. rw (none-above (1 ∷ 2 ∷ 8 ∷ []) m refl h, none-above (3 ∷ 4 ∷ 5 ∷ 9 ∷ []) m refl h)) n
 
   pub puts-by : (parts : ℕ → List (List ℕ)) (first : List ℕ) (n : ℕ)
@@ -126,20 +110,20 @@ module _ (s : ℕ) (k : List ℕ) where
   unfolding puts
   puts-by parts first n =
       by-kind (λ m r. puts parts first r ≡ cond (isHeld m) (cond (eqb m 8) (withEnding first) [] ++ heldParts parts s k) (cond (isEdge m) (withEnding k) [])) s k
-      refl refl refl refl refl refl refl refl refl refl
+      refl refl refl refl refl refl refl refl refl refl refl refl
       (λ m h. rw (none-above (1 ∷ 2 ∷ 8 ∷ []) m refl h, none-above (3 ∷ 4 ∷ 5 ∷ 9 ∷ []) m refl h)) n
 
   -- the last many blocks
   pub opener-is : (first : List ℕ) (n : ℕ) → opener first (rowOf n s k) ≡ cond (isAny (6 ∷ 7 ∷ []) n) k first
   unfolding opener
   opener-is first n =
-      by-kind (λ m r. opener first r ≡ cond (isAny (6 ∷ 7 ∷ []) m) k first) s k refl refl refl refl refl refl refl refl refl refl
+      by-kind (λ m r. opener first r ≡ cond (isAny (6 ∷ 7 ∷ []) m) k first) s k refl refl refl refl refl refl refl refl refl refl refl refl
       (λ m h. rw (none-above (6 ∷ 7 ∷ []) m refl h)) n
 
 -- no other row opens many blocks
 many-by : (n : ℕ) → isAny (6 ∷ 7 ∷ []) n ≡ cond (isHeld n) false (cond (isEdge n) false (isAny (6 ∷ 7 ∷ []) n))
 many-by n =
-    by-kind (λ m r. isAny (6 ∷ 7 ∷ []) m ≡ cond (isHeld m) false (cond (isEdge m) false (isAny (6 ∷ 7 ∷ []) m))) 0 [] refl refl refl refl refl refl refl refl refl refl
+    by-kind (λ m r. isAny (6 ∷ 7 ∷ []) m ≡ cond (isHeld m) false (cond (isEdge m) false (isAny (6 ∷ 7 ∷ []) m))) 0 [] refl refl refl refl refl refl refl refl refl refl refl refl
     (λ m h. rw (none-above (6 ∷ 7 ∷ []) m refl h, none-above (1 ∷ 2 ∷ 8 ∷ []) m refl h, none-above (3 ∷ 4 ∷ 5 ∷ 9 ∷ []) m refl h)) n
 
 -- ---- a row further
@@ -159,6 +143,7 @@ deeper-most (mark s k) d = omega arith
 deeper-most (back c) zero = omega arith
 deeper-most (back c) (suc d) = omega arith
 deeper-most ends d = omega arith
+deeper-most (bar b) d = omega arith
 
 module _ (value : ℕ → List ℕ) where
   any-step : (d : ℕ) (r : Row) (rows : List Row) → (d ≡ 0 → ⊥) → anyRows value d (r ∷ rows) ≡ (hasValue value r || anyRows value (deeper r d) rows)

@@ -7,7 +7,7 @@ use mathlib.Core.List.{List, [], _∷_, _++_, append-assoc, append-nil, flatten}
 use Rattle.text.specs.Bytes.{bytes}
 use Rattle.lines.specs.Lines.{joined}
 use Rattle.layout.specs.Rows.{Row, field, mark, back}
-use Rattle.sheets.specs.Trees.{Field, Member, Tree, last, line, block, group, fieldRows, memberRows, rowsIn, tableOf}
+use Rattle.sheets.specs.Trees.{Field, Member, Tree, last, line, block, group, barred, fieldRows, memberRows, rowsIn, tableOf}
 use Rattle.sheets.specs.Sheets.{Entry, edge, item, lineOf, linesIn}
 use Rattle.sheets.specs.Filled.{some, anyField, anyMember, anyIn, filledFields, filledMembers, filled}
 use Rattle.sheets.proofs.Order.{lines-both}
@@ -57,6 +57,7 @@ module _ (value : ℕ → List ℕ) where
       rw (any-rows t (suc d) (rowsIn u rows), any-rows u d rows) (sym (or-assoc (anyIn value t) (anyIn value u) (anyRows value d rows)))
   any-rows (group n a o c ms t) d rows =
       rw (any-members c ms d (rowsIn t rows), any-rows t d rows) (sym (or-assoc (anyMember value ms) (anyIn value t) (anyRows value d rows)))
+  any-rows (barred b t) d rows = any-rows t d rows
 
 -- the first line of the last many blocks of a tree
 unfoldable pub openerIn : List ℕ → Tree → List ℕ
@@ -64,6 +65,7 @@ openerIn first (last c) = first
 openerIn first (line f t) = openerIn first t
 openerIn first (block m o t u) = openerIn (openerIn first t) u
 openerIn first (group n a o c ms t) = openerIn o t
+openerIn first (barred b t) = openerIn first t
 
 module _ (value : ℕ → List ℕ) (parts : ℕ → List (List ℕ)) (same : (s : ℕ) → flatten (parts s) ≡ value s) where
   -- ---- what does not stand is passed over
@@ -85,6 +87,7 @@ module _ (value : ℕ → List ℕ) (parts : ℕ → List (List ℕ)) (same : (s
   skip (line f t) first d rows = skip t first d rows
   skip (block m o t u) first d rows = skip t first (suc d) (rowsIn u rows) ∙ skip u (openerIn first t) d rows
   skip (group n a o c ms t) first d rows = skip-members c ms o d (rowsIn t rows) ∙ skip t o d rows
+  skip (barred b t) first d rows = skip t first d rows
 
   -- ---- what stands is put as its lines
 
@@ -190,6 +193,7 @@ module _ (value : ℕ → List ℕ) (parts : ℕ → List (List ℕ)) (same : (s
   rows-out (group n a o c ms t) first rows =
       members-out c ms o (rowsIn t rows)
       ∙ rw (rows-out t o rows, text-append (filledMembers value o c ms) (filled value t)) (sym (append-assoc (text (filledMembers value o c ms)) (text (filled value t)) (out (openerIn o t) zero rows)))
+  rows-out (barred b t) first rows = rows-out t first rows
 
   -- so it is for the table of a tree
   pub walk-is : (t : Tree) → flatten (walk value parts [] 0 (tableOf t)) ≡ joined (linesIn (filled value t))

@@ -8,7 +8,7 @@ use lib.ListN.{length}
 use Rattle.text.specs.Bytes.{bytes}
 use Rattle.stretches.specs.Stretches.{stretchOf}
 use Rattle.forms.specs.Slots.{slotAt}
-use Rattle.layout.specs.Rows.{Row, field, opens, closes, many, mark, back, ends, rowsOf}
+use Rattle.layout.specs.Rows.{Row, field, opens, closes, many, mark, back, ends, bar, rowsOf}
 use Rattle.sheets.specs.Filled.{some}
 
 -- ---- what stands behind the text of a slot
@@ -60,6 +60,7 @@ deeper (many n a o) deep = deep
 deeper (mark s k) deep = suc deep
 deeper (back c) deep = lower deep
 deeper ends deep = deep
+deeper (bar b) deep = deep
 
 -- something stands behind the text of a row's slot
 unfoldable pub hasValue : (ℕ → List ℕ) → Row → Bool
@@ -70,6 +71,7 @@ hasValue value (many n a o) = false
 hasValue value (mark s k) = some (value s)
 hasValue value (back c) = false
 hasValue value ends = false
+hasValue value (bar b) = false
 
 -- for one of the rows, up to the end of so many blocks
 unfoldable pub anyRows : (ℕ → List ℕ) → ℕ → List Row → Bool
@@ -86,6 +88,7 @@ stands value rows (many n a o) = true
 stands value rows (mark s k) = some (value s)
 stands value rows (back c) = true
 stands value rows ends = true
+stands value rows (bar b) = true
 
 -- ---- what the rows put
 
@@ -105,6 +108,7 @@ opener first (many n a o) = o
 opener first (mark s k) = first
 opener first (back c) = first
 opener first ends = first
+opener first (bar b) = first
 
 -- what a row that stands puts
 unfoldable pub puts : (ℕ → List (List ℕ)) → List ℕ → Row → List (List ℕ)
@@ -115,6 +119,7 @@ puts parts first (many n a o) = []
 puts parts first (mark s k) = first ∷ bytes "\r\n" ∷ heldParts parts s k
 puts parts first (back c) = withEnding c
 puts parts first ends = []
+puts parts first (bar b) = []
 
 -- what all put; `off` counts the blocks since one that does not stand
 unfoldable pub walk : (ℕ → List ℕ) → (ℕ → List (List ℕ)) → List ℕ → ℕ → List Row → List (List ℕ)

@@ -1,7 +1,8 @@
 // Which rows of a table stand: what is mandatory, what has a value, and an optional block where one of its slots has.
 //
 // The kinds are those of layout's specs/Rows: 1 and 2 a field, mandatory or not; 3 and 4 a block's opening, 5 its close; 6 and
-// 7 the opening of many blocks, 8 the first field of one of them, 9 its close; any other number ends them.
+// 7 the opening of many blocks, 8 the first field of one of them, 9 its close; 10 and 11 what stops a line, which puts none; any other
+// number ends the many blocks.
 use super::parts;
 ghost use mathlib.Core.Path.{_≡_};
 ghost use mathlib.Core.Bool.{true, _||_, cond};

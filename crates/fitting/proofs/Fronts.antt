@@ -1,19 +1,21 @@
 -- A text and its first line, held against a key of 20 to 7E hex: the one begins with the key where the other does; and where the text
 -- holds an LF, its first line is the key where the text begins with the key and a line ending.
 -- Assumes nothing.
-use Prim.Native.Nat.{ℕ, suc, _-_, _<_}
-use mathlib.Core.Path.{_≡_, refl, ap, _∙_}
-use mathlib.Core.Bool.{Bool, true, false, _&&_, cond}
-use mathlib.Core.List.{List, [], _∷_}
+use Prim.Native.Nat.{ℕ, zero, suc, _-_, _/_, _<_}
+use mathlib.Core.Path.{_≡_, refl, sym, ap, _∙_}
+use mathlib.Core.Bool.{Bool, true, false, _&&_, not, cond, true≢false}
+use mathlib.Core.List.{List, [], _∷_, append-nil}
 use native.Mathlib.Nat.{not-suc-le-zero, le-of-suc-le-suc}
 use native.Mathlib.Omega.{arith}
 use lib.Dec.{eqb, eqb·suc-zero}
 use lib.ListN.{length, take, drop}
 use lib.Seq.{take-at}
 use borrow.Author.Tests.{eqb-true}
-use Rattle.text.specs.Bytes.{bytes, begins, same, before}
+use Rattle.text.specs.Bytes.{bytes, begins, same, before, parts}
 use Rattle.text.specs.Classes.{isBetween, printed}
-use Rattle.text.proofs.Laws.{and-left, and-right, begins-is, rest-of}
+use Rattle.text.proofs.Laws.{and-left, and-right, and-both, same-eq, begins-append, begins-is, rest-of}
+use Rattle.text.proofs.Bools.{is-false}
+use Rattle.bars.specs.Bars.{anyFront, goesOn, strays}
 use Rattle.lines.specs.Lines.{bare, withoutEnding, endingWidth}
 use Rattle.lines.proofs.Laws.{print-lf, bare-print}
 use Rattle.fitting.specs.Fitting.{endsLine, isEdge}
@@ -55,6 +57,79 @@ begins-line (k ∷ key) (b ∷ s) p = at (begins-line key s (and-right (isBetwee
     at : begins key s ≡ begins key (withoutEnding s) → (t : Bool) → eqb b k ≡ t → begins (k ∷ key) (b ∷ s) ≡ begins (k ∷ key) (withoutEnding (b ∷ s))
     at ih true e = rw (line-more b s (rw (eqb-true b k e) (and-left _ _ p)), e) ih
     at ih false e = rw (other-line k b key s e .0, e)
+
+-- a line that does not begin with a key is not the key
+pub same-begins : (key l : List ℕ) → begins key l ≡ false → same key l ≡ false
+same-begins key l h = is-false (same key l) (λ e. true≢false (sym (begins-self key) ∙ (rw (← same-eq key l e) at h)))
+  where
+    begins-self : (k : List ℕ) → begins k k ≡ true
+    begins-self k = rw (append-nil k) at (begins-append k [])
+
+-- ---- a text strays where its first line does
+
+-- the first byte of a line that is not empty
+line-first : (k b : ℕ) (key s : List ℕ) → begins (k ∷ key) (withoutEnding (b ∷ s)) ≡ true → withoutEnding (b ∷ s) ≡ b ∷ withoutEnding s
+unfolding withoutEnding before bare begins
+line-first k b key s h = at (eqb b 10) h
+  where
+    alone : (t : Bool) → begins (k ∷ key) (cond t [] (b ∷ [])) ≡ true → cond t [] (b ∷ []) ≡ b ∷ []
+    alone true e = absurd (true≢false (sym e))
+    alone false e = refl
+
+    more : (t : List ℕ) → begins (k ∷ key) (bare (b ∷ t)) ≡ true → bare (b ∷ t) ≡ b ∷ bare t
+    more [] e = alone (eqb b 13) e
+    more (c ∷ t) e = refl
+
+    at : (t : Bool) → begins (k ∷ key) (bare (cond t [] (b ∷ before 10 s))) ≡ true → bare (cond t [] (b ∷ before 10 s)) ≡ b ∷ bare (before 10 s)
+    at true e = absurd (true≢false (sym e))
+    at false e = more (before 10 s) e
+
+-- behind a key that a line begins with a word stands in the line where it stands in the text
+word-line : (key w s : List ℕ) → printed w ≡ true → begins key (withoutEnding s) ≡ true
+    → begins w (drop (length key) s) ≡ begins w (drop (length key) (withoutEnding s))
+unfolding withoutEnding before bare begins
+word-line [] w s p h = begins-line w s p
+word-line (k ∷ key) w [] p h = refl
+word-line (k ∷ key) w (b ∷ s) p h =
+    let e = line-first k b key s h in
+    rw e (word-line key w s p (and-right (eqb b k) _ (rw e at h)))
+
+-- the parts of a text that can be printed
+printed-take : (n : ℕ) (s : List ℕ) → printed s ≡ true → printed (take n s) ≡ true
+unfolding printed
+printed-take zero s p = refl
+printed-take (suc n) [] p = refl
+printed-take (suc n) (b ∷ s) p = and-both {a = isBetween 32 126 b} (and-left (isBetween 32 126 b) _ p) (printed-take n s (and-right (isBetween 32 126 b) _ p))
+
+printed-drop : (n : ℕ) (s : List ℕ) → printed s ≡ true → printed (drop n s) ≡ true
+unfolding printed
+printed-drop zero s p = p
+printed-drop (suc n) [] p = refl
+printed-drop (suc n) (b ∷ s) p = printed-drop n s (and-right (isBetween 32 126 b) _ p)
+
+any-line : (n : ℕ) (ws key s : List ℕ) → printed ws ≡ true → begins key (withoutEnding s) ≡ true
+    → anyFront (parts 4 n ws) (drop (length key) s) ≡ anyFront (parts 4 n ws) (drop (length key) (withoutEnding s))
+unfolding anyFront parts
+any-line zero ws key s p h = refl
+any-line (suc n) ws key s p h = rw (word-line key (take 4 ws) s (printed-take 4 ws p) h, any-line n (drop 4 ws) key s (printed-drop 4 ws p) h)
+
+-- a line is the first bytes of its text
+begins-text : (key s : List ℕ) → begins key (withoutEnding s) ≡ true → begins key s ≡ true
+unfolding withoutEnding before bare begins
+begins-text [] s h = refl
+begins-text (k ∷ key) [] h = h
+begins-text (k ∷ key) (b ∷ s) h =
+    let e = line-first k b key s h in
+    let g : (eqb b k && begins key (withoutEnding s)) ≡ true = rw e at h in
+    and-both (and-left (eqb b k) _ g) (begins-text key s (and-right (eqb b k) _ g))
+
+pub strays-line : (key ws s : List ℕ) → printed ws ≡ true → strays key ws s ≡ false → strays key ws (withoutEnding s) ≡ false
+unfolding strays goesOn
+strays-line key ws s p h = at (begins key (withoutEnding s)) refl
+  where
+    at : (t : Bool) → begins key (withoutEnding s) ≡ t → (t && not (anyFront (parts 4 (length ws / 4) ws) (drop (length key) (withoutEnding s)))) ≡ false
+    at true e = rw (begins-text key s e, any-line (length ws / 4) ws key s p e) at h
+    at false e = refl
 
 -- ---- its first line is a key where a line ending follows that
 

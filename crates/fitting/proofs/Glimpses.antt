@@ -14,17 +14,18 @@ use Rattle.text.specs.Classes.{printed}
 use Rattle.text.proofs.Bools.{of-both}
 use Rattle.text.proofs.Laws.{and-left, and-right, begins-length}
 use Rattle.lines.specs.Lines.{withoutEnding}
-use Rattle.layout.specs.Rows.{Row, field, opens, closes, many, mark, back, ends, rowOf, textAt, firstRow, rowsOf}
+use Rattle.bars.specs.Bars.{Bar, surplus, only, stops}
+use Rattle.layout.specs.Rows.{Row, field, opens, closes, many, mark, back, ends, bar, nextKey, rowOf, textAt, firstRow, rowsOf}
 use Rattle.layout.specs.Layout.{fitsOr9, lacks, isSeen, against, beneath, look, scan, stepOf}
 use Rattle.layout.specs.declared.Place.{Place}
 use Rattle.layout.specs.declared.Step.{Step}
 use Rattle.layout.specs.declared.Look.{Look}
 use Rattle.layout.proofs.Laws.{row-next, row-at, text-at}
 use Rattle.layout.proofs.Rows.{row-of, NoneTo, ends-at, scan-stop, scan-more}
-use Rattle.fitting.specs.Fitting.{rowText, cleanRows, endsLine, Fits, Fitted, isEdge, glimpse, glimpseBeneath, glimpseAt}
+use Rattle.fitting.specs.Fitting.{barText, rowText, cleanRows, endsLine, Fits, Fitted, isEdge, mayStop, glimpse, glimpseBeneath, glimpseAt}
 use Rattle.fitting.specs.declared.Fit.{Fit}
 use Rattle.fitting.specs.declared.Glimpse.{Glimpse}
-use Rattle.fitting.proofs.Fronts.{begins-line, edge-line, key-front}
+use Rattle.fitting.proofs.Fronts.{begins-line, edge-line, strays-line, same-begins, key-front}
 
 -- ---- a row of a kind, with its text
 
@@ -34,14 +35,14 @@ row-kind t row kind key h e k = row-of t (row * 16) kind key e (k ∙ text-at t 
 
 -- inside a block that is being passed over, a row of none of the other kinds is the last of a block or an end
 pub out-beneath : (s : List ℕ) (deep : ℕ) (unmarked : Bool) (t : List ℕ) (at : ℕ)
-    → (((NoneTo 4 (getD t at 0) × (getD t at 0 ≡ 6 → ⊥)) × (getD t at 0 ≡ 7 → ⊥)) × (getD t at 0 ≡ 8 → ⊥)) × (getD t at 0 ≡ 9 → ⊥)
+    → (((((NoneTo 4 (getD t at 0) × (getD t at 0 ≡ 6 → ⊥)) × (getD t at 0 ≡ 7 → ⊥)) × (getD t at 0 ≡ 8 → ⊥)) × (getD t at 0 ≡ 9 → ⊥)) × (getD t at 0 ≡ 10 → ⊥)) × (getD t at 0 ≡ 11 → ⊥)
     → glimpseBeneath s deep unmarked (firstRow (drop at t)) ≡ Glimpse.Further (deep - 1) unmarked
 unfolding glimpseBeneath rowOf NoneTo
-out-beneath s deep unmarked t at ((((n, six), seven), eight), nine) = on (eqb (getD t at 0) 5) refl
+out-beneath s deep unmarked t at ((((((n, six), seven), eight), nine), ten), eleven) = on (eqb (getD t at 0) 5) refl
   where
     on : (b : Bool) → eqb (getD t at 0) 5 ≡ b → glimpseBeneath s deep unmarked (firstRow (drop at t)) ≡ Glimpse.Further (deep - 1) unmarked
     on true e = rw (row-at t at, eqb-true (getD t at 0) 5 e)
-    on false e = rw (ends-at t at (((((n, eqb-false _ _ e), six), seven), eight), nine))
+    on false e = rw (ends-at t at (((((((n, eqb-false _ _ e), six), seven), eight), nine), ten), eleven))
 
 -- ---- a glimpse beside a look
 
@@ -81,7 +82,7 @@ module _ (here : Place) (seen s : List ℕ) (row : ℕ) (rows : List Row) (deep 
   edge o v step e z n f = λ p. (kept o s v step (and-left _ _ e) p z (f p), n, and-right (begins o s) _ e)
 
   glimpse-told : (r : Row) → Held r (glimpse here seen s row rows unmarked r)
-  unfolding Told glimpse against rowText fitsOr9
+  unfolding Told glimpse against rowText barText fitsOr9 mayStop stops
   glimpse-told (field m sl k) =
       of-both (Held (field m sl k)) (begins k s)
       (λ e p. (kept k s _ _ e p refl (λ h. rw (← begins-line k s p, e)), refl))
@@ -101,6 +102,12 @@ module _ (here : Place) (seen s : List ℕ) (row : ℕ) (rows : List Row) (deep 
       (λ e. (omega arith, λ p h. rw (← begins-line k s p, e)))
   glimpse-told (back c) = of-both (Held (back c)) (isEdge s c) (λ e. edge c _ _ e refl refl (λ p h. rw (← edge-line c s p h, e))) (λ e. tt)
   glimpse-told ends = tt
+  glimpse-told (bar b) =
+      of-both (Held (bar b)) (mayStop b (nextKey rows) s) (λ e. tt) (λ e. (omega arith, λ p h. rw (passes b (nextKey rows) e p)))
+    where
+      passes : (b : Bar) (key : List ℕ) → mayStop b key s ≡ false → printed (barText b) ≡ true → stops b key (withoutEnding s) ≡ false
+      passes (surplus n o) key e p = same-begins o (withoutEnding s) (rw (← begins-line o s p) e)
+      passes (only ws) key e p = strays-line key ws s p e
 
   beneath-told : (r : Row) → HeldBeneath r (glimpseBeneath s deep unmarked r)
   unfolding Told glimpseBeneath beneath rowText isEdge
@@ -115,6 +122,7 @@ module _ (here : Place) (seen s : List ℕ) (row : ℕ) (rows : List Row) (deep 
       of-both (HeldBeneath (back c)) (unmarked && (eqb deep 1 && begins c s))
       (λ e. tt) (λ e. (omega arith, λ p h. rw (← edge-line c s p h, ← and-assoc (eqb deep 1), ← and-assoc unmarked, e)))
   beneath-told ends = (omega arith, λ p h. refl)
+  beneath-told (bar b) = (omega arith, λ p h. refl)
 
   look-told : (r : Row) → Told (rowText r) s (deep + 1) (look here seen (withoutEnding s) row rows deep unmarked false r) (glimpseAt here seen s row rows deep unmarked r)
   unfolding look glimpseAt

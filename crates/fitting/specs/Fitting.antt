@@ -9,7 +9,8 @@ use lib.ListN.{length, take, drop}
 use Rattle.text.specs.Bytes.{begins, before}
 use Rattle.text.specs.Classes.{isBetween, printed}
 use Rattle.lines.specs.Lines.{withoutEnding, endingWidth}
-use Rattle.layout.specs.Rows.{Row, field, opens, closes, many, mark, back, ends}
+use Rattle.bars.specs.Bars.{Bar, surplus, only, strays}
+use Rattle.layout.specs.Rows.{Row, field, opens, closes, many, mark, back, ends, bar, nextKey}
 use Rattle.layout.specs.Layout.{moves, enters, takes, isSeen, lacks, stepOf}
 use Rattle.layout.specs.declared.Place.{Place}
 use Rattle.layout.specs.declared.Step.{Step}
@@ -19,6 +20,10 @@ use Rattle.fitting.specs.declared.Glimpse.{Glimpse}
 
 -- ---- the texts of a table are of 20 to 7E hex
 
+unfoldable pub barText : Bar → List ℕ
+barText (surplus n o) = o
+barText (only ws) = ws
+
 unfoldable pub rowText : Row → List ℕ
 rowText (field m s k) = k
 rowText (opens m o) = o
@@ -27,6 +32,7 @@ rowText (many n a o) = o
 rowText (mark s k) = k
 rowText (back c) = c
 rowText ends = []
+rowText (bar b) = barText b
 
 unfoldable pub cleanRows : List Row → Bool
 cleanRows [] = true
@@ -59,6 +65,11 @@ Fitted table here seen s Not = Unit
 unfoldable pub isEdge : List ℕ → List ℕ → Bool
 isEdge s o = begins o s && endsLine (drop (length o) s)
 
+-- a text that a bar may stop is not told; `key` is the text of the row behind the bar
+unfoldable pub mayStop : Bar → List ℕ → List ℕ → Bool
+mayStop (surplus n o) key s = begins o s
+mayStop (only ws) key s = strays key ws s
+
 -- a row of the block that the line stands in: `row` is its place in the table, `rows` are those behind it
 unfoldable pub glimpse : Place → List ℕ → List ℕ → ℕ → List Row → Bool → Row → Glimpse
 glimpse here seen s row rows unmarked (field m sl k) =
@@ -74,6 +85,7 @@ glimpse here seen s row rows unmarked (mark sl k) =
     (Glimpse.Further 1 true)
 glimpse here seen s row rows unmarked (back c) = cond (isEdge s c) (Glimpse.Edge (moves here (here .back)) (length c)) Glimpse.Not
 glimpse here seen s row rows unmarked ends = Glimpse.Not
+glimpse here seen s row rows unmarked (bar b) = cond (mayStop b (nextKey rows) s) Glimpse.Not (Glimpse.Further 0 unmarked)
 
 -- a row inside a block that is being passed over. A text that begins as the last line of one of many blocks is not told, whether it is that
 -- line or not: its ending is not looked at
@@ -87,6 +99,7 @@ glimpseBeneath s deep unmarked (mark sl k) = Glimpse.Further (deep + 1) unmarked
 glimpseBeneath s deep unmarked (back c) =
     cond (unmarked && (eqb deep 1 && begins c s)) Glimpse.Not (Glimpse.Further (deep - 1) unmarked)
 glimpseBeneath s deep unmarked ends = Glimpse.Further (deep - 1) unmarked
+glimpseBeneath s deep unmarked (bar b) = Glimpse.Further deep unmarked
 
 unfoldable pub glimpseAt : Place → List ℕ → List ℕ → ℕ → List Row → ℕ → Bool → Row → Glimpse
 glimpseAt here seen s row rows deep unmarked r =

@@ -159,6 +159,12 @@ fn see_row(
         }
         8 => see_mark(row, slot, key, seen, text, here),
         9 => see_edge(back, back, key, true, text, unmarked),
+        10 => unless(text::begins_with(text, key), 0, unmarked),
+        11 => unless(
+            bars::strays(layout::next_key(table, next), key, text),
+            0,
+            unmarked,
+        ),
         _ => Glimpse::Not,
     }
 }
@@ -192,6 +198,8 @@ fn see_beneath(table: &[u8], row: usize, text: &[u8], deep: usize, unmarked: boo
         7 => Glimpse::Further(deep + 1, unmarked),
         8 => Glimpse::Further(deep + 1, unmarked),
         9 => pass_over(text, key, deep, deep - 1, unmarked),
+        10 => Glimpse::Further(deep, unmarked),
+        11 => Glimpse::Further(deep, unmarked),
         _ => Glimpse::Further(deep - 1, unmarked),
     }
 }

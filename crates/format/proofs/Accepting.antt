@@ -17,7 +17,9 @@ use Rattle.lines.proofs.Joins.{whole-lines}
 use Rattle.blocks.specs.Blocks.{nest, nestPass}
 use Rattle.layout.specs.Layout.{Run, refusedAt, taken, Taken}
 use Rattle.sheets.specs.Sheets.{Entry, linesIn, Sheet}
-use Rattle.sheets.proofs.Moves.{NumberedRun, numbered}
+use borrow.Author.Tests.{leb-true}
+use lib.Dec.{leb}
+use Rattle.sheets.proofs.Moves.{good-bars, NumberedRun, numbered}
 use Rattle.sheets.proofs.Accepts.{takenOn, reads}
 use Rattle.sheets.proofs.Cuts.{cuts}
 use Rattle.walk.specs.Walk.{valuesPass, bodyPass, takenIn}
@@ -40,9 +42,9 @@ then-next v w h = rw h
 -- ---- a run that passes was taken, since a refusal has a number
 
 module _ (F : Format) where
-  all-taken : (run : Run) → NumberedRun run → bodyPass (F .slotOf) run .number ≡ 0 → (ts : List Taken) × (run ≡ taken ts) × (valuesPass (F .slotOf) ts .number ≡ 0)
+  all-taken : (run : Run) → NumberedRun (leb 1) run → bodyPass (F .slotOf) run .number ≡ 0 → (ts : List Taken) × (run ≡ taken ts) × (valuesPass (F .slotOf) ts .number ≡ 0)
   unfolding bodyPass refused
-  all-taken (refusedAt k n) h z = let no : ⊥ = omega arith in absurd no
+  all-taken (refusedAt k n) h z = let no : ⊥ = omega (arith, leb-true 1 k h) in absurd no
   all-taken (taken ts) h z = (ts, refl, z)
 
   -- ---- pass by pass
@@ -108,7 +110,7 @@ module _ (F : Format) where
     pub told : (m : List ℕ) → Cut m → bodyPass (F .slotOf) (bodyOf F m) .number ≡ 0 → Told m
     unfolding bodyOf
     told m c b =
-        let (ts, e, v) = all-taken (bodyOf F m) (numbered (F .tree) 5 (drop 4 (linesOf m))) b in
+        let (ts, e, v) = all-taken (bodyOf F m) (numbered (leb 1) refl refl (F .tree) 5 (drop 4 (linesOf m)) (good-bars (F .tree) (L .good))) b in
         let (es, q, r, l) = cuts (F .tree) (bytes "-") (c .early) 5 ts (L .good) (L .ends-at) (rw (← (c .body)) e) in
         record { sheet = es; laid = l; lines = c .body ∙ q; valued = valued F es 5 (rw r at v); body = rw r at e }
 

@@ -17,14 +17,14 @@ use Rattle.blocks.specs.Blocks.{nestPass}
 use Rattle.pieces.specs.Pieces.{pieceOf}
 use Rattle.pieces.proofs.Pieces.{piece-message, message-passed}
 use Rattle.layout.specs.Rows.{Row, back}
-use Rattle.sheets.specs.Trees.{Field, Member, Tree, last, line, block, group, fieldRows, memberRows, rowsIn, tableOf}
+use Rattle.sheets.specs.Trees.{Field, Member, Tree, last, line, block, group, barred, fieldRows, memberRows, rowsIn, tableOf}
 use Rattle.walk.specs.Walk.{bodyPass, walkOf}
 use Rattle.walk.specs.declared.Body.{Body}
 use Rattle.reader.specs.Header.{headPass, headStarts, headEnds}
 use Rattle.reader.specs.Take.{takeOf}
 use Rattle.reader.proofs.Laws.{taken-is}
 use Rattle.measure.specs.Measure.{cleanSlot}
-use Rattle.fitting.specs.Fitting.{rowText, cleanRows}
+use Rattle.fitting.specs.Fitting.{barText, rowText, cleanRows}
 use Rattle.glance.specs.Glance.{Clean}
 use Rattle.format.specs.Format.{Format}
 use Rattle.format.specs.Reading.{bodyOf}
@@ -62,6 +62,7 @@ rows-in-clean (group n a o c ms t) rows h e =
     let j = and-right (printed c) _ k in
     and-both {a = printed o} (and-left _ _ h)
     (member-rows-clean c ms (rowsIn t rows) (and-left _ _ k) (and-left _ _ j) (rows-in-clean t rows (and-right (memberTexts ms) _ j) e))
+rows-in-clean (barred b t) rows h e = and-both {a = printed (barText b)} (and-left _ _ h) (rows-in-clean t rows (and-right (printed (barText b)) _ h) e)
 
 pub rows-clean : (t : Tree) → texts t ≡ true → cleanRows (tableOf t) ≡ true
 unfolding tableOf cleanRows

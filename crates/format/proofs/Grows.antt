@@ -9,7 +9,7 @@ use native.Mathlib.Omega.{arith}
 use lib.ListN.{length, length-append}
 use Rattle.text.specs.Bytes.{bytes}
 use Rattle.lines.specs.Lines.{joined}
-use Rattle.sheets.specs.Trees.{Field, Member, Tree, last, line, block, group}
+use Rattle.sheets.specs.Trees.{Field, Member, Tree, last, line, block, group, barred}
 use Rattle.sheets.specs.Sheets.{Entry, edge, item, lineOf, linesIn}
 use Rattle.sheets.specs.Filled.{some, anyField, anyMember, anyIn, filledFields, filledMembers, filled}
 
@@ -75,6 +75,7 @@ module _ (value wide : ℕ → List ℕ) (most : (s : ℕ) → length (value s) 
   any-in (line f t) e = implies-or _ _ _ _ (some-most (f .slot)) (any-in t) e
   any-in (block m o t u) e = implies-or _ _ _ _ (any-in t) (any-in u) e
   any-in (group n a o c ms t) e = implies-or _ _ _ _ (any-member ms) (any-in t) e
+  any-in (barred b t) e = any-in t e
 
   -- a line in front
   held-grows : (s : ℕ) (k : List ℕ) (es ds : List Entry) → size es ≤ size ds → size (item s k (value s) ∷ es) ≤ size (item s k (wide s) ∷ ds)
@@ -135,3 +136,4 @@ module _ (value wide : ℕ → List ℕ) (most : (s : ℕ) → length (value s) 
       rest
       (let x = longer (edge o) (filled wide t ++ filled wide u) in let z = behind (filled wide t) (filled wide u) in omega arith)
   grows (group n a o c ms t) = append-grows _ _ _ _ (members-grow o c ms) (grows t)
+  grows (barred b t) = grows t

@@ -130,7 +130,7 @@ module _ (F : Format) (L : Layout F) where
     pub holds : headPass (F .slotOf) (F .header) m .number ≡ 0 → Held F (saidIn F m es)
     unfolding headPass
     holds p =
-        let (firm, whole) = sheet-settles (F .tree) es (behindIn F (saidIn F m es)) l (L .is-sole) said-tells in
+        let (firm, whole) = sheet-settles (F .tree) es (behindIn F (saidIn F m es)) l (L .is-tellable) (L .is-sole) said-tells in
         record { each = each; whole = whole; firm = firm }
       where
         heads : Heads (F .slotOf) (F .header) (linesOf m)

@@ -15,6 +15,7 @@ use Rattle.sheets.specs.Sheets.{has}
 use Rattle.sheets.specs.Slots.{slotsOf}
 use Rattle.sheets.specs.Plain.{Group}
 use Rattle.sheets.proofs.Checks.{goodTree, apart, free, withTree, once, disjoint, distinct, sole, groupsOf, tellable, complete, solid}
+use Rattle.format.proofs.Worded.{wordsAgree}
 use Rattle.sheets.proofs.Ends.{lastLine}
 use Rattle.format.specs.Format.{Format, optional}
 use Rattle.format.specs.Reading.{rulesOf}
@@ -56,10 +57,11 @@ pub record Layout (F : Format) : Type 0 where
   pub are-with : every (has (withTree [] (F .tree))) (slotsOf (F .tree)) ≡ true
   pub nests : nestable 0 (bytes "-") (F .tree) ≡ true
   pub texts-are : texts (F .tree) ≡ true
-  -- its slots: none is good with nothing behind the row's text, none that is optional is good with the fixed text alone, and what is
-  -- good is of 20 to 7E hex
+  -- its slots: none is good with nothing behind the row's text, none that is optional is good with the fixed text alone, what is good
+  -- behind a bar goes on with one of the bar's words, and what is good is of 20 to 7E hex
   pub none-bare : every (λ s. not (eqb (valueNumber (F .slotOf s) []) 0)) (slotsOf (F .tree)) ≡ true
   pub none-fixed : every (λ s. not (optional F s) || not (eqb (valueNumber (F .slotOf s) (F .slotOf s .fixed ++ [])) 0)) (slotsOf (F .tree)) ≡ true
+  pub words-agree : wordsAgree (F .slotOf) (F .tree) ≡ true
   pub printing : every (λ s. printable (F .slotOf s)) (everySlot F) ≡ true
   -- its plain form
   pub groups-are : groupsOf (F .tree) ≡ F .groups

@@ -1,6 +1,7 @@
 pub mod Tests
 pub mod Nests
 pub mod Prints
+pub mod Worded
 pub mod Laws
 pub mod Heads
 pub mod Said

@@ -15,8 +15,8 @@ use Rattle.text.proofs.Laws.{and-left, and-right, and-both, same-refl, same-eq,
 use Rattle.lines.specs.Verdicts.{pass}
 use Rattle.lines.specs.declared.Verdict.{Verdict}
 use Rattle.blocks.specs.Blocks.{isTagged, nameOf, named, roleOf, goes, ending, opening, closing, turn, follow, nest}
-use Rattle.sheets.specs.Trees.{Field, Member, Tree, last, line, block, group, chain}
-use Rattle.sheets.specs.Sheets.{Entry, edge, item, lineOf, linesIn, Among, front, later, Laid, shut, given, absent, opened, passed, member, done}
+use Rattle.sheets.specs.Trees.{Field, Member, Tree, last, line, block, group, barred, chain}
+use Rattle.sheets.specs.Sheets.{Entry, edge, item, lineOf, linesIn, Among, front, later, Laid, shut, given, absent, opened, passed, member, done, unstopped}
 use Rattle.sheets.specs.Filled.{some}
 use Rattle.sheets.proofs.Checks.{full}
 use Rattle.sheets.proofs.Accepts.{lines-append}
@@ -48,6 +48,7 @@ nestable d z (last c) = same z c
 nestable d z (line f t) = fieldKey (f .key) && nestable d z t
 nestable d z (block m o t u) = opensAt d o && (nestable (suc d) (closer o) t && nestable d z u)
 nestable d z (group n a o c ms t) = opensAt d o && (same (closer o) c && (memberKeys ms && nestable d z t))
+nestable d z (barred b t) = nestable d z t
 
 -- ---- what each line does
 
@@ -184,7 +185,7 @@ nests (opened {o = o} {t = t} {es = es} {ds = ds} l r) d z blocks after h e f k 
     (nests-both (suc n) (nameOf o ∷ blocks) blocks es ds after
     (nests l (suc d) (closer o) (nameOf o ∷ blocks) (λ j. nest j blocks) (and-left _ _ b) (ap suc e) (full-left es ds f) (ends-block d blocks o a) (suc n))
     (nests r d z blocks after (and-right (nestable (suc d) (closer o) t) _ b) e (full-right es ds f) k (suc n + length es)))
-nests (passed {o = o} {t = t} m r) d z blocks after h e f k n =
+nests (passed {o = o} {t = t} m g r) d z blocks after h e f k n =
     nests r d z blocks after (and-right (nestable (suc d) (closer o) t) _ (and-right (opensAt d o) _ h)) e f k n
 nests (member {o = o} {c = c} {ms = ms} {t = t} {m = m} {es = es} {ds = ds} v i w l r) d z blocks after h e f k n =
     let a = and-left (opensAt d o) _ h in
@@ -198,6 +199,7 @@ nests (member {o = o} {c = c} {ms = ms} {t = t} {m = m} {es = es} {ds = ds} v i 
     (nests r d z blocks after h e (full-right es ds x) k (suc (suc n) + length es))))
 nests (done {o = o} {c = c} {ms = ms} w l) d z blocks after h e f k n =
     nests l d z blocks after (and-right (memberKeys ms) _ (and-right (same (closer o) c) _ (and-right (opensAt d o) _ h))) e f k n
+nests (unstopped w l) d z blocks after h e f k n = nests l d z blocks after h e f k n
 
 -- a block: from behind its first line, up to and with its last, it leaves the blocks around it
 pub nests-block : {slots : List ℕ} {t : Tree} {es : List Entry} → Laid slots t es → (o : List ℕ) (blocks : List (List ℕ))

@@ -3,7 +3,7 @@
 use Prim.Native.Nat.{ℕ, suc, _≤_}
 use native.Mathlib.Omega.{arith}
 use mathlib.Core.Path.{_≡_, refl}
-use mathlib.Core.Bool.{Bool, true, false, _&&_, not, cond}
+use mathlib.Core.Bool.{Bool, true, false, _&&_, _||_, not, cond}
 use mathlib.Core.List.{List, [], _∷_}
 use lib.Dec.{leb, ltb, eqb}
 use lib.ListN.{length, drop, getD}
@@ -23,8 +23,8 @@ use Rattle.text.specs.Classes.{isCode}
 use Rattle.forms.specs.Narrative.{isNarrative}
 use Rattle.forms.specs.Pool.{hasDelivery, deliveryIn, isPoolShape, poolNumber}
 use Rattle.layout.specs.Layout.{Taken, Run, refusedAt, taken}
-use Rattle.sheets.proofs.Moves.{NumberedRun, numbered}
-use Rattle.text.proofs.Bools.{of-both}
+use Rattle.sheets.proofs.Moves.{barsPass, NumberedRun, numbered}
+use Rattle.text.proofs.Bools.{of-both, or-case}
 use Rattle.walk.specs.Walk.{valueVerdict, valuesPass, bodyPass}
 use Rattle.reader.specs.Header.{headVerdict, headPass}
 use Rattle.format.specs.Format.{Format}
@@ -167,12 +167,25 @@ values-few slotOf (t ∷ ts) =
     (either (Few 12) (eqb (valueNumber (slotOf (t .slot)) (t .value)) 0) (few _ _ refl) (number-few (slotOf (t .slot)) (t .value)))
     (values-few slotOf ts)
 
--- ---- 8 and 9, and then these
+-- ---- 8, 9 and those of the layout's bars, and then these
 
-body-few : (slotOf : ℕ → Slot) (run : Run) → NumberedRun run → Few 12 (bodyPass slotOf run)
-unfolding bodyPass refused
-body-few slotOf (refusedAt number line) h = omega (arith, h .1)
-body-few slotOf (taken ts) h = values-few slotOf ts
+-- a test that numbers from 12 on may pass
+unfoldable pub upTo : ℕ → ℕ → Bool
+upTo most n = leb n 12 || leb n most
+
+up-8 : (most : ℕ) → upTo most 8 ≡ true
+unfolding upTo
+up-8 most = refl
+
+up-9 : (most : ℕ) → upTo most 9 ≡ true
+unfolding upTo
+up-9 most = refl
+
+body-few : (most : ℕ) → 12 ≤ most → (slotOf : ℕ → Slot) (run : Run) → NumberedRun (upTo most) run → Few most (bodyPass slotOf run)
+unfolding bodyPass refused upTo
+body-few most h slotOf (refusedAt number line) k =
+    or-case (leb number 12) (leb number most) k (λ e. omega (arith, leb-true number 12 e)) (leb-true number most)
+body-few most h slotOf (taken ts) k = let few = values-few slotOf ts in omega arith
 
 -- ---- and all of them together
 
@@ -183,15 +196,15 @@ when-few true n most h = h
 when-few false n most h = omega arith
 
 module _ (F : Format) where
-  -- a read has a number of 1 to 12, or one of its rules'
-  pub read-few : (most : ℕ) → 12 ≤ most → ((value : ℕ → List ℕ) (r : F .Held) → Few most (F .readRules value r)) → (m : List ℕ) → Few most (verdictOf F m)
+  -- a read has a number of 1 to 12, or one of its layout's bars or of its rules
+  pub read-few : (most : ℕ) → 12 ≤ most → barsPass (upTo most) (F .tree) ≡ true → ((value : ℕ → List ℕ) (r : F .Held) → Few most (F .readRules value r)) → (m : List ℕ) → Few most (verdictOf F m)
   unfolding verdictOf rulesOf headPass nestPass bodyOf
-  read-few most h k m =
+  read-few most h b k m =
       let up : (n : ℕ) → n ≤ 12 → n ≤ most = λ n few. omega arith in
       then-few most (linesPass m) _ (up _ (lines-few m))
       (then-few most (headPass (F .slotOf) (F .header) m) _ (up _ (header-few (F .slotOf) 1 (F .header) (linesOf m)))
       (then-few most (nestPass m) _ (up _ (nest-few 5 [] (drop 4 (linesOf m))))
-      (then-few most (bodyPass (F .slotOf) (bodyOf F m)) _ (up _ (body-few (F .slotOf) (bodyOf F m) (numbered (F .tree) 5 (drop 4 (linesOf m)))))
+      (then-few most (bodyPass (F .slotOf) (bodyOf F m)) _ (body-few most h (F .slotOf) (bodyOf F m) (numbered (upTo most) (up-8 most) (up-9 most) (F .tree) 5 (drop 4 (linesOf m)) b))
       (k _ _))))
 
   -- a plain form 19 besides

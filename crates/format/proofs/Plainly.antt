@@ -12,7 +12,7 @@ use Rattle.text.specs.Bytes.{bytes}
 use Rattle.text.proofs.Laws.{and-left, and-right}
 use Rattle.lines.specs.Lines.{linesOf, joined}
 use Rattle.forms.specs.Forms.{valueNumber}
-use Rattle.sheets.specs.Trees.{Field, Member, Tree, last, line, block, group}
+use Rattle.sheets.specs.Trees.{Field, Member, Tree, last, line, block, group, barred}
 use Rattle.sheets.specs.Slots.{fieldSlots, ownSlots, memberSlots, slotsOf}
 use Rattle.sheets.specs.Sheets.{Entry, has, linesIn, Sheet}
 use Rattle.sheets.specs.Filled.{some, valueIn, filled}
@@ -159,6 +159,7 @@ module _ (F : Format) (L : Layout F) (m : List ℕ) (es : List Entry) (l : Sheet
           ),
         ),
       )
+  turned-tree (barred b u) w t = turned-tree u w t
 
 -- ---- the message
 

@@ -9,8 +9,9 @@ use Rattle.text.proofs.Printed.{printed, printed-append, allPrinted}
 use Rattle.lines.proofs.Joins.{printable-append}
 use Rattle.forms.specs.Forms.{Slot, valueNumber}
 use Rattle.forms.proofs.Printing.{printedForm, value-printed}
-use Rattle.sheets.specs.Trees.{Field, Member, Tree, last, line, block, group, chain}
-use Rattle.sheets.specs.Sheets.{Entry, edge, item, lineOf, linesIn, Among, front, later, Laid, shut, given, absent, opened, passed, member, done}
+use Rattle.fitting.specs.Fitting.{barText}
+use Rattle.sheets.specs.Trees.{Field, Member, Tree, last, line, block, group, barred, chain}
+use Rattle.sheets.specs.Sheets.{Entry, edge, item, lineOf, linesIn, Among, front, later, Laid, shut, given, absent, opened, passed, member, done, unstopped}
 use Rattle.sheets.proofs.Order.{lines-both}
 
 -- ---- the texts of a table
@@ -28,6 +29,7 @@ texts (last c) = printed c
 texts (line f t) = printed (f .key) && texts t
 texts (block m o t u) = printed o && (texts t && texts u)
 texts (group n a o c ms t) = printed o && (printed c && (memberTexts ms && texts t))
+texts (barred b t) = printed (barText b) && texts t
 
 chain-texts : (fs : List Field) (c : List ℕ) → fieldTexts fs ≡ true → printed c ≡ true → texts (chain fs c) ≡ true
 unfolding chain fieldTexts texts
@@ -81,7 +83,7 @@ laid-printed (opened {o = o} {t = t} {es = es} {ds = ds} l r) h p =
     let k = and-right (printed o) _ h in
     edge-more o (es ++ ds) (and-left _ _ h)
     (both-more es ds (laid-printed l (and-left _ _ k) (left-printed es ds p)) (laid-printed r (and-right (texts t) _ k) (right-printed es ds p)))
-laid-printed (passed {o = o} {t = t} z r) h p = laid-printed r (and-right (texts t) _ (and-right (printed o) _ h)) p
+laid-printed (passed {o = o} {t = t} z g r) h p = laid-printed r (and-right (texts t) _ (and-right (printed o) _ h)) p
 laid-printed (member {o = o} {c = c} {ms = ms} {m = m} {es = es} {ds = ds} v i z l r) h p =
     let k = and-right (printed o) _ h in
     let g = among-texts i (and-left (memberTexts ms) _ (and-right (printed c) _ k)) in
@@ -89,6 +91,7 @@ laid-printed (member {o = o} {c = c} {ms = ms} {m = m} {es = es} {ds = ds} v i z
     (held-more (m .slot) (m .key) v (es ++ ds) (g .0) (p .0)
     (both-more es ds (laid-printed l (chain-texts (m .inside) c (g .1) (and-left _ _ k)) (left-printed es ds (p .1))) (laid-printed r h (right-printed es ds (p .1)))))
 laid-printed (done {o = o} {c = c} {ms = ms} z l) h p = laid-printed l (and-right (memberTexts ms) _ (and-right (printed c) _ (and-right (printed o) _ h))) p
+laid-printed (unstopped {b = b} z l) h p = laid-printed l (and-right (printed (barText b)) _ h) p
 
 -- ---- a slot whose values are, where they get 0
 

@@ -24,7 +24,7 @@ use Rattle.sheets.specs.Slots.{slotsOf}
 use Rattle.sheets.specs.Filled.{some, valueIn, filled}
 use Rattle.sheets.specs.Plain.{anyLine}
 use Rattle.text.proofs.Bools.{or-one, or-two, or-left, or-right}
-use Rattle.sheets.proofs.Checks.{withTree, full}
+use Rattle.sheets.proofs.Checks.{withTree, full, worded}
 use Rattle.sheets.proofs.Emits.{emits, values, Fits, fits-filled}
 use Rattle.sheets.proofs.Once.{has-append, slotsHeld, inside}
 use Rattle.sheets.proofs.Solid.{full-filled}
@@ -37,6 +37,7 @@ use Rattle.format.specs.Lawful.{Valued, saidIn, Lawful}
 use Rattle.format.specs.Writing.{behindIn, headLine, linesFor, messageOf, judgeOf}
 use Rattle.format.proofs.Tests.{every-at}
 use Rattle.format.proofs.Prints.{Printed, laid-printed, printable, good-printed}
+use Rattle.format.proofs.Worded.{agree-worded}
 use Rattle.format.proofs.Laws.{everySlot, Layout, Filled, Held, Laws}
 use Rattle.format.proofs.Heads.{heads-written, value-written, heads-pass, heads-miss, heads-printed}
 use Rattle.format.proofs.Accepting.{no-dash, accepted-line, lawful-accepted, body-taken, record-said}
@@ -113,9 +114,6 @@ module _ (F : Format) (L : Layout F) where
     abbrev sheet : List Entry
     sheet = filled (behindIn F value) (F .tree)
 
-    pub filled-sheet : Sheet (F .tree) sheet
-    filled-sheet = emits (behindIn F value) (F .tree) (L .is-once) (h .whole)
-
     good-value : (s : ℕ) (v : List ℕ) → has (slotsOf (F .tree)) s ≡ true → some v ≡ true → v ≡ behindIn F value s → valueNumber (F .slotOf s) v ≡ 0
     unfolding some
     good-value s v i e q = on (behind-filled F L value s (h .each s (in-tree s i)))
@@ -124,6 +122,12 @@ module _ (F : Format) (L : Layout F) where
             ⊎ ((behindIn F value s ≡ F .slotOf s .fixed ++ value s) × (valueNumber (F .slotOf s) (F .slotOf s .fixed ++ value s) ≡ 0)) → valueNumber (F .slotOf s) v ≡ 0
         on (inl (a, b, o)) = absurd (true≢false (sym e ∙ ap some (q ∙ a)))
         on (inr (a, z)) = ap (valueNumber (F .slotOf s)) (q ∙ a) ∙ z
+
+    held-worded : worded (behindIn F value) (F .tree) ≡ true
+    held-worded = agree-worded (F .slotOf) (behindIn F value) (F .tree) (L .words-agree) (λ s i e. good-value s (behindIn F value s) i e refl) (h .firm)
+
+    pub filled-sheet : Sheet (F .tree) sheet
+    filled-sheet = emits (behindIn F value) (F .tree) (L .is-once) (L .is-apart) held-worded (h .whole)
 
     all-valued : (es : List Entry) → Fits (behindIn F value) es → full es ≡ true → ((s : ℕ) → has (slotsHeld es) s ≡ true → has (slotsOf (F .tree)) s ≡ true) → Valued F es
     unfolding Fits full slotsHeld has Valued

@@ -23,11 +23,12 @@ use Rattle.forms.proofs.Laws.{amount-good}
 use Rattle.forms.proofs.Widths.{longest, formWidth, bounded}
 use Rattle.forms.proofs.Printing.{printedForm}
 use Rattle.blocks.specs.Blocks.{isTagged, nameOf}
-use Rattle.sheets.specs.Trees.{chain}
+use Rattle.sheets.specs.Trees.{last, block, chain}
+use Rattle.sheets.specs.Notation.{may}
 use Rattle.sheets.specs.Slots.{fieldSlots, ownSlots, memberSlots, slotsOf, firstSlots, mustSlots}
 use Rattle.sheets.specs.Sheets.{lineOf, linesIn, has}
 use Rattle.sheets.specs.Filled.{some, anyField, anyMember, anyIn, filledFields, filledMembers, filled}
-use Rattle.sheets.proofs.Checks.{keysOf, groupsOf, goodSlot, goodFields, goodMembers, goodTree, clash, avoids, noneOf, apartFields, laterApart, apartMembers, apart, freeFields, freeMembers, free, withFields, withMembers, withTree, onceMembers, once, disjoint, distinct, soleMembers, sole, allFree, closedMembers, heavy, tellable, allMembers, wholeMembers, complete, solidFields, solidMembers, solid}
+use Rattle.sheets.proofs.Checks.{keysOf, groupsOf, goodSlot, goodFields, goodMembers, goodTree, clash, avoids, noneOf, apartFields, laterApart, apartMembers, unlike, apart, freeFields, freeMembers, free, withFields, withMembers, withTree, onceMembers, once, disjoint, distinct, soleMembers, sole, allFree, closedMembers, heavy, tellable, allMembers, wholeMembers, complete, solidFields, solidMembers, solid}
 use Rattle.sheets.proofs.Ends.{lastLine}
 use Rattle.format.specs.Format.{every, mayLack, optional}
 use Rattle.format.specs.Plain.{tidied}
@@ -38,6 +39,8 @@ use Rattle.format.proofs.Tests.{every-at, every-of, number-form, no-len
 use Rattle.format.proofs.Nests.{fieldKey, opensAt, closer, fieldKeys, memberKeys, nestable}
 use Rattle.format.proofs.Prints.{fieldTexts, memberTexts, texts, printable}
 use Rattle.format.proofs.Plainly.{map-same}
+use Rattle.format.proofs.Worded.{wordsAgree}
+use Rattle.sheets.proofs.Loose.{none-begun}
 use Rattle.format.proofs.Laws.{edges, strangers, everySlot, Layout, Filled, Held, Laws}
 use Rattle.format.proofs.Lengths.{value-width, wide, bytesOf, message-most, within, within-most}
 use Rattle.format.proofs.Demands.{demands}
@@ -45,7 +48,7 @@ use Rattle.format.proofs.Demands.{demands}
 -- ---- the layout, by computation
 
 pub layout : Layout specimen
-unfolding bytes begins same before isBetween isDigit isUpper isC inClass allIn printed amountRead isAmount whole isCode isWord wordAt unless formNumber valueNumber allPrinted printedForm isTagged nameOf chain fieldSlots ownSlots memberSlots slotsOf firstSlots mustSlots has groupsOf keysOf goodSlot goodFields goodMembers goodTree clash avoids noneOf apartFields laterApart apartMembers apart freeFields freeMembers free withFields withMembers withTree onceMembers once disjoint distinct soleMembers sole allFree closedMembers heavy tellable lastLine everySlot optional slots slotOf header general commission settlement status tree links fronts every isCodes noCode foreign isAmountForm apartText onceFront untouched tidyRow tidyFields tidyMembers tidyTree fieldKey opensAt closer fieldKeys memberKeys nestable fieldTexts memberTexts texts printable edges strangers
+unfolding bytes begins same before isBetween isDigit isUpper isC inClass allIn printed amountRead isAmount whole isCode isWord wordAt unless formNumber valueNumber allPrinted printedForm isTagged nameOf chain fieldSlots ownSlots memberSlots slotsOf firstSlots mustSlots has groupsOf keysOf goodSlot goodFields goodMembers goodTree clash avoids noneOf apartFields laterApart apartMembers unlike apart wordsAgree freeFields freeMembers free withFields withMembers withTree onceMembers once disjoint distinct soleMembers sole allFree closedMembers heavy tellable lastLine everySlot optional slots slotOf header general commission settlement status tree links fronts every isCodes noCode foreign isAmountForm apartText onceFront untouched tidyRow tidyFields tidyMembers tidyTree fieldKey opensAt closer fieldKeys memberKeys nestable fieldTexts memberTexts texts printable edges strangers
 layout =
     record {
       good = refl;
@@ -60,6 +63,7 @@ layout =
       texts-are = refl;
       none-bare = refl;
       none-fixed = refl;
+      words-agree = refl;
       printing = refl;
       groups-are = refl;
       is-tidy = refl;
@@ -132,8 +136,10 @@ unfolding everySlot slotsOf memberSlots ownSlots fieldSlots header tree general 
 named-are = refl
 
 complete-tree : (v : ℕ → List ℕ) → complete v tree ≡ true
-unfolding complete allMembers wholeMembers tree general commission settlement status anyIn anyField
-complete-tree v = simp or-true
+unfolding complete allMembers wholeMembers tree general commission settlement status anyIn anyField avoids clash bytes same
+complete-tree v =
+    rw (none-begun v (bytes ":16R:SETDET") (block may (bytes ":16R:STAT") status (last (bytes "-"))) refl, none-begun v (bytes ":16R:STAT") (last (bytes "-")) refl)
+    (simp or-true)
 
 solid-general : (v : ℕ → List ℕ) → solid v general ≡ some (v 5)
 unfolding solid solidMembers solidFields general

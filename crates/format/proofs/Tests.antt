@@ -17,7 +17,7 @@ use Rattle.text.proofs.Laws.{and-left, and-right, and-both, same-eq, begins-app
 use Rattle.amount.specs.Amounts.{whole, decimals, trimmed, shortened, tidy, isAmount, amountRead, amountNumber}
 use Rattle.forms.specs.Forms.{Form, nothing, codes, words, amount, date, moment, narrative, poolNarrative, other, Slot, unless, formNumber, valueNumber}
 use Rattle.forms.proofs.Laws.{value-begins}
-use Rattle.sheets.specs.Trees.{Field, Member, Tree, last, line, block, group}
+use Rattle.sheets.specs.Trees.{Field, Member, Tree, last, line, block, group, barred}
 use Rattle.sheets.specs.Sheets.{has}
 use Rattle.sheets.specs.Filled.{some}
 use Rattle.text.proofs.Bools.{is-false, of-both, or-case, or-two}
@@ -225,6 +225,7 @@ module _ (fronts : List (List ℕ)) (slotOf : ℕ → Slot) where
   tidyTree (line f t) = tidyRow fronts (slotOf (f .slot)) (f .key) && tidyTree t
   tidyTree (block m o t u) = untouched fronts o && (tidyTree t && tidyTree u)
   tidyTree (group n a o c ms t) = untouched fronts o && (untouched fronts c && (tidyMembers ms && tidyTree t))
+  tidyTree (barred b t) = tidyTree t
 
 -- a line that begins with none of the fronts
 pub untouched-line : (fs : List (List ℕ)) (l : List ℕ) → untouched fs l ≡ true → tidyLine fs l ≡ l

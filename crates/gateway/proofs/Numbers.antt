@@ -14,6 +14,7 @@ use Rattle.format.proofs.Numbers.{few, Few, then-few, read-few, plain-few, writ
 use Rattle.trade.specs.declared.Trade.{Trade}
 use Rattle.kinds.specs.Kinds.{recordPass, kindsPass}
 use Rattle.values.specs.Mt515.{mt515}
+use Rattle.values.proofs.Laid.{no-bars}
 use Rattle.mt515.specs.Reading.{verdictOf, readOf}
 use Rattle.batch.specs.Batch.{blankReading, saysOf, nextOf}
 use Rattle.gateway.specs.Numbers.{Numbers}
@@ -31,7 +32,7 @@ rules-few t = then-few 20 _ _ (chained-few 20 ((_, 14) ∷ (_, 15) ∷ (_, 16) �
 -- ---- and all answers
 
 verdict-few : (m : List ℕ) → Few 17 (verdictOf m)
-verdict-few = read-few mt515 17 (few _ _ refl) (λ value t. kinds-few (value 2) t)
+verdict-few = read-few mt515 17 (few _ _ refl) (no-bars _) (λ value t. kinds-few (value 2) t)
 
 next-few : (turn : Turn) (piece : List ℕ) → saysOf turn piece .number ≤ 21
 unfolding saysOf blankReading readOf Any.readOf Any.reading

@@ -14,6 +14,7 @@ use Rattle.format.proofs.Numbers.{few, Few, read-few, plain-few}
 use Rattle.pool_trade.specs.declared.PoolTrade.{PoolTrade}
 use Rattle.pool_kinds.specs.Kinds.{recordPass, kindsPass}
 use Rattle.pool_values.specs.Pool.{pool}
+use Rattle.pool_values.proofs.Laid.{no-bars}
 use Rattle.pool.specs.Reading.{readOf}
 use Rattle.pool_batch.specs.Batch.{blankReading, saysOf, nextOf}
 use Rattle.gateway.specs.PoolNumbers.{PoolNumbers}
@@ -24,7 +25,7 @@ unfolding kindsPass recordPass chained numbered
 kinds-few function t = chained-few 17 ((_, 13) ∷ (_, 14) ∷ (_, 15) ∷ (_, 16) ∷ (_, 17) ∷ []) refl
 
 verdict-few : (m : List ℕ) → Few 17 (Any.verdictOf pool m)
-verdict-few = read-few pool 17 (few _ _ refl) (λ value t. kinds-few (value 2) t)
+verdict-few = read-few pool 17 (few _ _ refl) (no-bars _) (λ value t. kinds-few (value 2) t)
 
 next-few : (turn : Turn) (piece : List ℕ) → saysOf turn piece .number ≤ 21
 unfolding saysOf blankReading readOf Any.readOf Any.reading

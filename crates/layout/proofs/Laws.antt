@@ -14,7 +14,8 @@ use borrow.Author.Tests.{lt-ltb, le-ltb}
 use Rattle.text.specs.Bytes.{begins, same, parts}
 use Rattle.text.proofs.Bools.{of-both}
 use Rattle.text.proofs.Laws.{begins-is, parts-from, length-parts}
-use Rattle.layout.specs.Rows.{Row, field, opens, closes, many, mark, back, ends, rowOf, keyOf, textAt, firstRow, rowsOf}
+use Rattle.bars.specs.Bars.{stops}
+use Rattle.layout.specs.Rows.{Row, field, opens, closes, many, mark, back, ends, bar, nextKey, rowOf, keyOf, textAt, firstRow, rowsOf}
 use Rattle.layout.specs.Layout.{fitsOr9, lacks, isSeen, against, beneath, look, onward, scan, stepOf, Taken, Run, refusedAt, taken, withTaken, marked, behind, runOf}
 use Rattle.layout.specs.declared.Place.{Place}
 use Rattle.layout.specs.declared.Step.{Step}
@@ -130,6 +131,7 @@ module _ (here : Place) (seen line : List ℕ) (deep : ℕ) (unmarked passed : B
       (λ e. omega arith)
   against-bound row rows (back c) = of-both Within (same c line) (λ e. fits-within _ (omega arith)) (λ e. omega arith)
   against-bound row rows ends = omega arith
+  against-bound row rows (bar b) = of-both Good (stops b (nextKey rows) line) (λ e. omega arith) (λ e. omega arith)
 
   beneath-bound : (r : Row) → Good (beneath here line deep unmarked passed r)
   unfolding Bound beneath
@@ -140,6 +142,7 @@ module _ (here : Place) (seen line : List ℕ) (deep : ℕ) (unmarked passed : B
   beneath-bound (mark s k) = omega arith
   beneath-bound (back c) = of-both Good (unmarked && (eqb deep 1 && same c line)) (λ e. omega arith) (λ e. omega arith)
   beneath-bound ends = omega arith
+  beneath-bound (bar b) = omega arith
 
   look-bound : (row : ℕ) (rows : List Row) (r : Row) → Good (look here seen line row rows deep unmarked passed r)
   unfolding look

@@ -4,17 +4,18 @@
 use Prim.Native.Nat.{ℕ, zero, suc, _+_, _*_, _-_, _/_, _%_, _≤_, _<_}
 use mathlib.Core.Path.{_≡_, refl, sym, _∙_}
 use mathlib.Core.Bool.{Bool, true, false, _||_, not}
-use mathlib.Core.List.{List, _∷_}
+use mathlib.Core.List.{List, [], _∷_}
 use mathlib.Core.Logic.{_⊎_, inl, inr}
 use native.Mathlib.Omega.{arith}
 use lib.ListN.{length, take, drop, getD, List·getD-eq-default}
 use lib.Seq.{drop-drop, getD-drop}
-use Rattle.layout.specs.Rows.{Row, ends, rowOf, keyOf, firstRow, rowsOf}
+use Rattle.layout.specs.Rows.{Row, ends, nextKey, rowOf, keyOf, firstRow, rowsOf}
 use Rattle.layout.specs.Layout.{isSeen, lacks, look, onward, scan, stepOf, wrong}
 use Rattle.layout.specs.declared.Place.{Place}
 use Rattle.layout.specs.declared.Step.{Step}
 use Rattle.layout.specs.declared.Look.{Look}
 use Rattle.layout.specs.declared.Look.the-variants.{Decided, Further}
+use Rattle.layout.proofs.ByKind.{by-kind}
 use Rattle.layout.proofs.Laws.{row-next, row-none, row-at, look-deeper}
 
 -- ---- the bytes of a row
@@ -37,7 +38,7 @@ unseen seen slot h = rw (List·getD-eq-default seen 0 h)
 -- ---- the kinds of rows
 
 -- a number that is none of the kinds is the end of many blocks
-ends-out : (slot : ℕ) (key : List ℕ) (k : ℕ) → (k ≡ 0) ⊎ (9 < k) → rowOf k slot key ≡ ends
+ends-out : (slot : ℕ) (key : List ℕ) (k : ℕ) → (k ≡ 0) ⊎ (11 < k) → rowOf k slot key ≡ ends
 unfolding rowOf
 ends-out slot key k (inl e) = rw e
 ends-out slot key k (inr h) = rw (List·getD-eq-default _ ends h)
@@ -57,24 +58,49 @@ none-past (suc n) k h = go (none-past n k (h .0))
     go (inl e) = inl e
     go (inr l) = let o = h .1 in inr (omega arith)
 
-pub ends-at : (t : List ℕ) (at : ℕ) → NoneTo 9 (getD t at 0) → firstRow (drop at t) ≡ ends
-ends-at t at n = row-at t at ∙ ends-out _ _ _ (none-past 9 _ n)
+pub ends-at : (t : List ℕ) (at : ℕ) → NoneTo 11 (getD t at 0) → firstRow (drop at t) ≡ ends
+ends-at t at n = row-at t at ∙ ends-out _ _ _ (none-past 11 _ n)
 
 -- a row that is no mark and no end says nothing of the marks
-lacks-plain : (seen : List ℕ) (rows : List Row) (slot : ℕ) (key : List ℕ) (k : ℕ) → 1 ≤ k → k ≤ 9 → (k ≡ 8 → ⊥)
+lacks-plain : (seen : List ℕ) (rows : List Row) (slot : ℕ) (key : List ℕ) (k : ℕ) → 1 ≤ k → k ≤ 11 → (k ≡ 8 → ⊥)
     → lacks seen (rowOf k slot key ∷ rows) ≡ lacks seen rows
-unfolding lacks rowOf
-lacks-plain seen rows slot key zero l h n = let z : ⊥ = omega arith in absurd z
-lacks-plain seen rows slot key (suc zero) l h n = refl
-lacks-plain seen rows slot key (suc (suc zero)) l h n = refl
-lacks-plain seen rows slot key (suc (suc (suc zero))) l h n = refl
-lacks-plain seen rows slot key (suc (suc (suc (suc zero)))) l h n = refl
-lacks-plain seen rows slot key (suc (suc (suc (suc (suc zero))))) l h n = refl
-lacks-plain seen rows slot key (suc (suc (suc (suc (suc (suc zero)))))) l h n = refl
-lacks-plain seen rows slot key (suc (suc (suc (suc (suc (suc (suc zero))))))) l h n = refl
-lacks-plain seen rows slot key (suc (suc (suc (suc (suc (suc (suc (suc zero)))))))) l h n = absurd (n refl)
-lacks-plain seen rows slot key (suc (suc (suc (suc (suc (suc (suc (suc (suc zero))))))))) l h n = refl
-lacks-plain seen rows slot key (suc (suc (suc (suc (suc (suc (suc (suc (suc (suc k)))))))))) l h n = let z : ⊥ = omega arith in absurd z
+unfolding lacks
+lacks-plain seen rows slot key =
+    by-kind (λ k r. 1 ≤ k → k ≤ 11 → (k ≡ 8 → ⊥) → lacks seen (r ∷ rows) ≡ lacks seen rows) slot key
+    (λ l h n. let z : ⊥ = omega arith in absurd z) plain plain plain plain plain plain plain
+    (λ l h n. absurd (n refl)) plain plain plain
+    (λ k o l h n. let z : ⊥ = omega arith in absurd z)
+  where
+    plain : {k : ℕ} → 1 ≤ k → k ≤ 11 → (k ≡ 8 → ⊥) → lacks seen rows ≡ lacks seen rows
+    plain l h n = refl
+
+-- one that is no field's has no text for a bar
+no-key : (slot : ℕ) (key : List ℕ) (rows : List Row) (k : ℕ) → (k ≡ 1 → ⊥) → (k ≡ 2 → ⊥) → nextKey (rowOf k slot key ∷ rows) ≡ []
+unfolding nextKey
+no-key slot key rows =
+    by-kind (λ k r. (k ≡ 1 → ⊥) → (k ≡ 2 → ⊥) → nextKey (r ∷ rows) ≡ []) slot key
+    (λ a b. refl) (λ a b. absurd (a refl)) (λ a b. absurd (b refl)) (λ a b. refl) (λ a b. refl) (λ a b. refl) (λ a b. refl) (λ a b. refl)
+    (λ a b. refl) (λ a b. refl) (λ a b. refl) (λ a b. refl) (λ k o a b. refl)
+
+-- ---- the text of a field's row
+
+module _ (t : List ℕ) (row : ℕ) where
+  pub no-next : length t / 16 ≤ row → [] ≡ nextKey (drop row (rowsOf t))
+  unfolding nextKey
+  no-next h = rw (row-none t row h)
+
+  module _ (h : row < length t / 16) where
+    next-here : nextKey (drop row (rowsOf t)) ≡ nextKey (rowOf (getD t (row * 16) 0) (getD t (row * 16 + 1) 0) (keyOf (drop (row * 16) t)) ∷ drop (row + 1) (rowsOf t))
+    next-here = rw (row-next t row h, row-at t (row * 16))
+
+    pub next-field : (must : ℕ) → (must ≡ 1) ⊎ (must ≡ 2) → getD t (row * 16) 0 ≡ must → (key : List ℕ) → key ≡ keyOf (drop (row * 16) t) → key ≡ nextKey (drop row (rowsOf t))
+    unfolding nextKey rowOf
+    next-field must (inl f) e key k = k ∙ sym (next-here ∙ rw (e, f))
+    next-field must (inr f) e key k = k ∙ sym (next-here ∙ rw (e, f))
+
+    pub next-other : NoneTo 2 (getD t (row * 16) 0) → [] ≡ nextKey (drop row (rowsOf t))
+    unfolding NoneTo
+    next-other n = sym (next-here ∙ no-key _ _ _ (getD t (row * 16) 0) (n .0 .1) (n .1))
 
 -- ---- the marks ahead, from a row on
 
@@ -98,11 +124,11 @@ module _ (seen t : List ℕ) (row i : ℕ) (inv : lacks seen (drop i (rowsOf t))
       pub mark-seen : not b ≡ false → lacks seen (drop (i + 1) (rowsOf t)) ≡ lacks seen (drop row (rowsOf t))
       mark-seen n = sym (mark-here ∙ rw n)
 
-    pub lacks-end : (getD t (i * 16) 0 ≡ 0) ⊎ (9 < getD t (i * 16) 0) → false ≡ lacks seen (drop row (rowsOf t))
+    pub lacks-end : (getD t (i * 16) 0 ≡ 0) ⊎ (11 < getD t (i * 16) 0) → false ≡ lacks seen (drop row (rowsOf t))
     unfolding lacks
     lacks-end e = sym (lacks-here ∙ rw (ends-out _ _ _ e))
 
-    pub lacks-more : 1 ≤ getD t (i * 16) 0 → getD t (i * 16) 0 ≤ 9 → (getD t (i * 16) 0 ≡ 8 → ⊥) → lacks seen (drop (i + 1) (rowsOf t)) ≡ lacks seen (drop row (rowsOf t))
+    pub lacks-more : 1 ≤ getD t (i * 16) 0 → getD t (i * 16) 0 ≤ 11 → (getD t (i * 16) 0 ≡ 8 → ⊥) → lacks seen (drop (i + 1) (rowsOf t)) ≡ lacks seen (drop row (rowsOf t))
     lacks-more l g n = sym (lacks-here ∙ lacks-plain _ _ _ _ _ l g n)
 
 -- ---- a line against the rows ahead

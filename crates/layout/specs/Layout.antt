@@ -8,7 +8,8 @@ use lib.Dec.{eqb}
 use lib.ListN.{length, drop, getD, set, replicate}
 use Rattle.text.specs.Bytes.{begins, same}
 use Rattle.stretches.specs.Stretches.{slotCount}
-use Rattle.layout.specs.Rows.{Row, field, opens, closes, many, mark, back, ends}
+use Rattle.layout.specs.Rows.{Row, field, opens, closes, many, mark, back, ends, bar, nextKey}
+use Rattle.bars.specs.Bars.{stops, barNumber}
 use Rattle.layout.specs.declared.Place.{Place}
 use Rattle.layout.specs.declared.Step.{Step}
 use Rattle.layout.specs.declared.Look.{Look}
@@ -55,6 +56,7 @@ lacks seen (many n a o ∷ rows) = lacks seen rows
 lacks seen (mark s k ∷ rows) = not (isSeen seen s) || lacks seen rows
 lacks seen (back c ∷ rows) = lacks seen rows
 lacks seen (ends ∷ rows) = false
+lacks seen (bar b ∷ rows) = lacks seen rows
 
 -- a row inside a block that is being passed over. A line that stands first in one of many blocks and is a later one of its
 -- fields, or its last line, has passed over the first field, which is mandatory
@@ -68,6 +70,7 @@ beneath here line deep unmarked passed (mark s k) = Further (deep + 1) unmarked 
 beneath here line deep unmarked passed (back c) =
     cond (unmarked && (eqb deep 1 && same c line)) (Decided (wrong here 9)) (Further (deep - 1) unmarked passed)
 beneath here line deep unmarked passed ends = Further (deep - 1) unmarked passed
+beneath here line deep unmarked passed (bar b) = Further deep unmarked passed
 
 -- a row of the block that the line stands in: `row` is its place in the table, `rows` are those behind it
 unfoldable pub against : Place → List ℕ → List ℕ → ℕ → List Row → Bool → Bool → Row → Look
@@ -86,6 +89,8 @@ against here seen line row rows unmarked passed (mark s k) =
 against here seen line row rows unmarked passed (back c) =
     Decided (cond (same c line) (fitsOr9 here passed (moves here (here .back))) (wrong here 8))
 against here seen line row rows unmarked passed ends = Decided (wrong here 8)
+against here seen line row rows unmarked passed (bar b) =
+    cond (stops b (nextKey rows) line) (Decided (wrong here (barNumber b))) (Further 0 unmarked passed)
 
 unfoldable pub look : Place → List ℕ → List ℕ → ℕ → List Row → ℕ → Bool → Bool → Row → Look
 look here seen line row rows deep unmarked passed r =

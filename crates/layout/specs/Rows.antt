@@ -6,6 +6,7 @@ use mathlib.Core.List.{List, [], _∷_, map}
 use lib.Dec.{ltb}
 use lib.ListN.{length, take, drop, getD}
 use Rattle.text.specs.Bytes.{parts}
+use Rattle.bars.specs.Bars.{Bar, surplus, only}
 
 -- a row of the table
 --   field   a line that is mandatory or not, its slot, and the text that it begins with: tag and qualifier
@@ -15,6 +16,7 @@ use Rattle.text.specs.Bytes.{parts}
 --   mark    the first field of one of them: its slot, and the text that it begins with
 --   back    the last line of one of them
 --   ends    behind the last of them
+--   bar     what stops a line
 pub data Row : Type 0 where
   field : Bool → ℕ → List ℕ → Row
   opens : Bool → List ℕ → Row
@@ -23,14 +25,28 @@ pub data Row : Type 0 where
   mark : ℕ → List ℕ → Row
   back : List ℕ → Row
   ends : Row
+  bar : Bar → Row
 
--- ---- the bytes of a table, sixteen to a row: the kind of the row, its slot, the length of its text, and the text
+-- the text that a field's row begins with, where it is the next row
+unfoldable pub nextKey : List Row → List ℕ
+nextKey [] = []
+nextKey (field m s k ∷ rows) = k
+nextKey (opens m o ∷ rows) = []
+nextKey (closes c ∷ rows) = []
+nextKey (many n a o ∷ rows) = []
+nextKey (mark s k ∷ rows) = []
+nextKey (back c ∷ rows) = []
+nextKey (ends ∷ rows) = []
+nextKey (bar b ∷ rows) = []
+
+-- ---- the bytes of a table, sixteen to a row: the kind of the row, its slot (of `surplus` its number), the length of its text, and the
+-- text (of `only` its words)
 
 -- the kinds are numbered as they stand here, from 0; any other number is `ends` too
 unfoldable pub rowOf : ℕ → ℕ → List ℕ → Row
 rowOf kind slot key =
     getD (ends ∷ field true slot key ∷ field false slot key ∷ opens true key ∷ opens false key ∷ closes key
-    ∷ many false true key ∷ many true false key ∷ mark slot key ∷ back key ∷ []) kind ends
+    ∷ many false true key ∷ many true false key ∷ mark slot key ∷ back key ∷ bar (surplus slot key) ∷ bar (only key) ∷ []) kind ends
 
 -- a length past the thirteen bytes of a row's text counts by its rest
 unfoldable pub keyOf : List ℕ → List ℕ

@@ -8,7 +8,8 @@ ghost use lib.ListN.{length, drop, set};
 ghost use mathlib.Core.Bool.{true, cond, _&&_, _||_};
 ghost use mathlib.Core.List.{[]};
 ghost use Rattle.text.specs.Bytes.{begins, same};
-ghost use Rattle.layout.specs.Rows.{keyOf, textAt, firstRow, rowsOf, field, opens};
+ghost use Rattle.bars.specs.Bars.{surplus, strays};
+ghost use Rattle.layout.specs.Rows.{keyOf, textAt, firstRow, rowsOf, nextKey, field, opens, bar};
 ghost use Rattle.layout.specs.Layout.{wrong, moves, takes, fitsOr9, enters, isSeen, lacks, beneath, against, look, stepOf};
 
 // The numbers of document 01: the line fits no slot from here on, and a mandatory one was passed over.
@@ -60,6 +61,22 @@ pub fn row_text(table: &[u8], row: usize) -> &[u8]
     }
 }
 
+// The text of a row that is a field's; of any other, and behind the last row, none.
+pub fn next_key(table: &[u8], row: usize) -> &[u8]
+    ensures { λ r. ⌜ now r ≡ nextKey (drop row (rowsOf (now (table .entry)))) ⌝ }
+{
+    let rows = table.len() / 16;
+    if rows <= row {
+        return &table[..0];
+    }
+    let kind = table[row * 16];
+    match kind {
+        1 => key(table, row),
+        2 => key(table, row),
+        _ => &table[..0],
+    }
+}
+
 // A line is the first or the last of a block: nothing may follow the block's name.
 fn is_line(line: &[u8], key: &[u8]) -> bool
     ensures { λ r. ⌜ r ≡ same (now (key .entry)) (now (line .entry)) ⌝ }
@@ -102,7 +119,7 @@ pub fn lacks_one(table: &[u8], row: usize, seen: &[u8]) -> bool
             }
         } else if kind < 1 {
             return false;
-        } else if 9 < kind {
+        } else if 11 < kind {
             return false;
         }
         i += 1;
@@ -250,6 +267,42 @@ fn look_mark(
     }
 }
 
+// A line against one block more than may come, which has a number of its own.
+fn look_surplus(
+    number: u64,
+    key: &[u8],
+    line: &[u8],
+    here: Place,
+    unmarked: bool,
+    passed: bool,
+) -> Look
+    ensures { λ r. ⌜ r ≡ against here [] (now (line .entry)) 0 [] unmarked passed (bar (surplus number (now (key .entry)))) ⌝ }
+{
+    if is_line(line, key) {
+        Look::Decided(refuse(here, number))
+    } else {
+        Look::Further(0, unmarked, passed)
+    }
+}
+
+// A line against the words that one goes on with that begins as the next row, whose text is `key`.
+fn look_only(
+    words: &[u8],
+    key: &[u8],
+    line: &[u8],
+    here: Place,
+    unmarked: bool,
+    passed: bool,
+) -> Look
+    ensures { λ r. ⌜ r ≡ cond (strays (now (key .entry)) (now (words .entry)) (now (line .entry))) (Look.Decided (wrong here 8)) (Look.Further 0 unmarked passed) ⌝ }
+{
+    if bars::strays(key, words, line) {
+        Look::Decided(refuse(here, NO_SLOT))
+    } else {
+        Look::Further(0, unmarked, passed)
+    }
+}
+
 // A line against a row of the block that it stands in.
 fn look_against(
     table: &[u8],
@@ -279,6 +332,8 @@ fn look_against(
         }
         8 => look_mark(row, slot, text, is_seen(seen, slot), line, here, passed),
         9 => look_closes(here.back, text, line, here, passed),
+        10 => look_surplus(slot as u64, text, line, here, unmarked, passed),
+        11 => look_only(text, next_key(table, row + 1), line, here, unmarked, passed),
         _ => Look::Decided(refuse(here, NO_SLOT)),
     }
 }
@@ -357,6 +412,8 @@ fn look_beneath(
                 Look::Further(deep - 1, unmarked, passed)
             }
         }
+        10 => Look::Further(deep, unmarked, passed),
+        11 => Look::Further(deep, unmarked, passed),
         _ => Look::Further(deep - 1, unmarked, passed),
     }
 }

@@ -11,7 +11,7 @@ use native.Mathlib.Omega.{arith}
 use lib.Dec.{eqb}
 use lib.ListN.{length, getD}
 use borrow.Author.Tests.{ne-eqb}
-use Rattle.text.specs.Bytes.{bytes, same}
+use Rattle.text.specs.Bytes.{bytes, begins, same}
 use Rattle.text.proofs.Laws.{and-left, and-right, and-both, same-eq}
 use Rattle.amount.specs.Amounts.{amountRead, amountNumber, amountText, tidy}
 use Rattle.amount.proofs.Laws.{amount-round}
@@ -24,6 +24,7 @@ use Rattle.forms.proofs.Laws.{unless-good}
 use Rattle.sheets.specs.Slots.{fieldSlots, ownSlots, memberSlots, slotsOf, firstSlots, mustSlots}
 use Rattle.sheets.specs.Sheets.{has}
 use Rattle.sheets.specs.Filled.{some}
+use Rattle.sheets.proofs.Checks.{clash, avoids}
 use Rattle.sheets.proofs.Loose.{lone, looseFields, looseMembers, loose}
 use Rattle.format.specs.Format.{optional}
 use Rattle.format.specs.Reading.{rulesOf}
@@ -161,7 +162,7 @@ module _ (t : PoolTrade) (form : inForm t ≡ true) where
 
   -- the values of a record in form are those of a message
   pub values-held : Held pool (valueOf t)
-  unfolding everySlot slotsOf memberSlots ownSlots fieldSlots header tree general security details every loose lone looseMembers looseFields
+  unfolding everySlot slotsOf memberSlots ownSlots fieldSlots header tree general security details every loose lone looseMembers looseFields avoids clash bytes begins same
   values-held = held-of pool layout refl (valueOf t) (each-slot pool 26 refl (λ slot. Filled pool slot (valueOf t slot)) each-filled)
 
   -- where the rules of the record are kept its narrative has at most 31 bytes, so that number 20 can not come up: no kind may have CDRY and

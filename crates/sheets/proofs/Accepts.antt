@@ -12,12 +12,13 @@ use native.Mathlib.Nat.{not-suc-le-zero}
 use Rattle.text.specs.Bytes.{begins, same}
 use Rattle.text.proofs.Bools.{is-false, or-none}
 use Rattle.text.proofs.Laws.{and-left, and-right, and-both, same-refl, same-eq, begins-append}
+use Rattle.bars.specs.Bars.{Bar, stops, barNumber}
 use Rattle.layout.specs.Layout.{Taken, Run, taken, withTaken}
 use Rattle.layout.proofs.Laws.{withAll, all-none, all-append}
-use Rattle.sheets.specs.Trees.{Field, Member, Tree, last, line, block, group, chain}
-use Rattle.sheets.specs.Sheets.{Entry, edge, item, lineOf, linesIn, come, has, lacking, Among, front, later, Laid, shut, given, absent, opened, passed, member, done, Sheet}
+use Rattle.sheets.specs.Trees.{Field, Member, Tree, last, line, block, group, barred, chain, leadKey}
+use Rattle.sheets.specs.Sheets.{Entry, edge, item, lineOf, linesIn, foremost, come, has, lacking, Among, front, later, Laid, shut, given, absent, opened, passed, member, done, unstopped, Sheet}
 use Rattle.sheets.specs.Taking.{Spot, within, first, over, go, fit, next, seek, laterField, tell, moveOf, following, walk, takenBy}
-use Rattle.sheets.proofs.Checks.{goodSlot, goodFields, goodMembers, goodTree, Fit, starts, whole, fitsLine, clash, avoids, noneOf, apartFields, laterApart, apartMembers, apart}
+use Rattle.sheets.proofs.Checks.{goodSlot, goodFields, goodMembers, goodTree, Fit, starts, whole, fitsLine, clash, avoids, noneOf, apartFields, laterApart, apartMembers, unlike, apartBar, apart}
 use Rattle.sheets.proofs.Moves.{good-chain}
 
 -- ---- texts that do not clash
@@ -42,28 +43,41 @@ clash-apart (whole o) (whole q) l e f = rw (← (same-eq q l f)) e
 
 -- ---- the first line of a sheet fits its own row, and none that this avoids
 
-Clear : Fit → List Entry → Type 0
-Clear a [] = ⊥
-Clear a (e ∷ es) = fitsLine a (lineOf e) ≡ false
-
 -- a field's line, and the line of a block
-clear-key : (a : Fit) (k v : List ℕ) → not (clash a (starts k)) ≡ true → fitsLine a (k ++ v) ≡ false
+pub clear-key : (a : Fit) (k v : List ℕ) → not (clash a (starts k)) ≡ true → fitsLine a (k ++ v) ≡ false
 unfolding fitsLine
 clear-key a k v h = clash-apart a (starts k) (k ++ v) (not-true _ h) (begins-append k v)
 
-clear-line : (a : Fit) (o : List ℕ) → not (clash a (whole o)) ≡ true → fitsLine a o ≡ false
+pub clear-line : (a : Fit) (o : List ℕ) → not (clash a (whole o)) ≡ true → fitsLine a o ≡ false
 unfolding fitsLine
 clear-line a o h = clash-apart a (whole o) o (not-true _ h) (same-refl o)
 
-clear : (a : Fit) {slots : List ℕ} {t : Tree} {es : List Entry} → Laid slots t es → avoids a t ≡ true → Clear a es
-unfolding Clear avoids lineOf
+clear : (a : Fit) {slots : List ℕ} {t : Tree} {es : List Entry} → Laid slots t es → avoids a t ≡ true → fitsLine a (foremost es) ≡ false
+unfolding avoids foremost lineOf
 clear a (shut {c = c}) h = clear-line a c h
 clear a (given {f = f} v l) h = clear-key a (f .key) v (and-left _ _ h)
 clear a (absent {f = f} e l) h = clear a l (and-right (not (clash a (starts (f .key)))) _ h)
 clear a (opened {o = o} l r) h = clear-line a o (and-left _ _ h)
-clear a (passed {o = o} e r) h = clear a r (and-right (not (clash a (whole o))) _ h)
+clear a (passed {o = o} e g r) h = clear a r (and-right (not (clash a (whole o))) _ h)
 clear a (member {o = o} v i e l r) h = clear-line a o (and-left _ _ h)
 clear a (done {o = o} e l) h = clear a l (and-right (not (clash a (whole o))) _ h)
+clear a (unstopped e l) h = clear a l h
+
+-- there is such a line
+unfoldable pub Some : List Entry → Type 0
+Some [] = ⊥
+Some (e ∷ es) = Unit
+
+pub some-line : {slots : List ℕ} {t : Tree} {es : List Entry} → Laid slots t es → Some es
+unfolding Some
+some-line shut = tt
+some-line (given v l) = tt
+some-line (absent e l) = some-line l
+some-line (opened l r) = tt
+some-line (passed e g r) = some-line r
+some-line (member v i e l r) = tt
+some-line (done e l) = some-line l
+some-line (unstopped e l) = some-line l
 
 -- ---- a sheet in front of further lines
 
@@ -145,12 +159,12 @@ takes-held slots n spot to ts us vs s k v es g e h more =
     rw (e, not-zero s g, drop-append-seam k v) (ap (withTaken (record { slot = s; line = n; value = v })) (h more))
 
 -- from a spot where the first line does the same
-takes-same : (a : Fit) (slots : List ℕ) (n : ℕ) (spot to : Spot) (ts us : List Tree) (es : List Entry)
-    → Clear a es → ((l : List ℕ) → fitsLine a l ≡ false → moveOf slots l spot ts ≡ moveOf slots l to ts)
+takes-same : (test : List ℕ → Bool) (slots : List ℕ) (n : ℕ) (spot to : Spot) (ts us : List Tree) (es : List Entry)
+    → Some es → test (foremost es) ≡ false → ((l : List ℕ) → test l ≡ false → moveOf slots l spot ts ≡ moveOf slots l to ts)
     → Takes slots n to ts us es → Takes slots n spot ts us es
-unfolding Takes Clear linesIn walk
-takes-same a slots n spot to ts us [] c e h more = absurd c
-takes-same a slots n spot to ts us (x ∷ es) c e h more = rw (e (lineOf x) c) (h more)
+unfolding Takes Some foremost linesIn walk
+takes-same test slots n spot to ts us [] s c e h more = absurd s
+takes-same test slots n spot to ts us (x ∷ es) s c e h more = rw (e (lineOf x) c) (h more)
 
 -- ---- one of many blocks
 
@@ -226,17 +240,17 @@ takes-sheet {slots = slots} (given {f = f} {t = t} {es = es} v l) h g n ts =
     takes-held slots n (within (line f t)) (within t) ts ts ts (f .slot) (f .key) v es (and-left _ _ g) (rw (begins-append (f .key) v))
     (takes-sheet l (and-right (avoids (starts (f .key)) t) _ h) (and-right (goodSlot (f .slot)) _ g) (suc n) ts)
 takes-sheet {slots = slots} {es = es} (absent {f = f} {t = t} m l) h g n ts =
-    takes-same (starts (f .key)) slots n (within (line f t)) (within t) ts ts es (clear (starts (f .key)) l (and-left _ _ h)) (λ x e. rw (e, m))
+    takes-same (begins (f .key)) slots n (within (line f t)) (within t) ts ts es (some-line l) (clear (starts (f .key)) l (and-left _ _ h)) (λ x e. rw (e, m))
     (takes-sheet l (and-right (avoids (starts (f .key)) t) _ h) (and-right (goodSlot (f .slot)) _ g) n ts)
 takes-sheet {slots = slots} (opened {m = m} {o = o} {t = t} {u = u} {es = es} {ds = ds} l r) h g n ts =
-    let k = and-right (avoids (whole o) u) _ h in
+    let k = and-right (unlike o u) _ h in
     takes-edge slots n (within (block m o t u)) (within t) ts (u ∷ ts) ts o (es ++ ds) (rw (same-refl o))
     (takes-both slots (suc n) (within t) (u ∷ ts) ts u es ds
     (takes-sheet l (and-left _ _ k) (and-left _ _ g) (suc n) (u ∷ ts))
     (takes-sheet r (and-right (apart t) _ k) (and-right (goodTree t) _ g) (lineBehind (suc n) es) ts))
-takes-sheet {slots = slots} {es = es} (passed {m = m} {o = o} {t = t} {u = u} z r) h g n ts =
-    takes-same (whole o) slots n (within (block m o t u)) (within u) ts ts es (clear (whole o) r (and-left _ _ h)) (λ x e. rw (e, z))
-    (takes-sheet r (and-right (apart t) _ (and-right (avoids (whole o) u) _ h)) (and-right (goodTree t) _ g) n ts)
+takes-sheet {slots = slots} {es = es} (passed {m = m} {o = o} {t = t} {u = u} z q r) h g n ts =
+    takes-same (same o) slots n (within (block m o t u)) (within u) ts ts es (some-line r) q (λ x e. rw (e, z))
+    (takes-sheet r (and-right (apart t) _ (and-right (unlike o u) _ h)) (and-right (goodTree t) _ g) n ts)
 takes-sheet {slots = slots} (member {n = n} {a = a} {o = o} {c = c} {ms = ms} {t = t} {m = m} {es = es} {ds = ds} v i z l r) h g k ts =
     let q = group n a o c ms t in
     let p = and-left (apartMembers c ms) (apart t) (and-right (avoids (whole o) t) _ h) in
@@ -249,9 +263,12 @@ takes-sheet {slots = slots} (member {n = n} {a = a} {o = o} {c = c} {ms = ms} {t
     (takes-sheet l (apart-chain (m .inside) c (checked c i p .1)) (good-chain (m .inside) c (w .1)) (suc (suc k)) (q ∷ ts))
     (takes-sheet r h g (lineBehind (suc (suc k)) es) ts)))
 takes-sheet {slots = slots} {es = es} (done {n = n} {a = a} {o = o} {c = c} {ms = ms} {t = t} z l) h g k ts =
-    takes-same (whole o) slots k (within (group n a o c ms t)) (within t) ts ts es (clear (whole o) l (and-left _ _ h))
+    takes-same (same o) slots k (within (group n a o c ms t)) (within t) ts ts es (some-line l) (clear (whole o) l (and-left _ _ h))
     (λ x e. rw (e, not-lacking n (lacking slots ms) z))
     (takes-sheet l (and-right (apartMembers c ms) _ (and-right (avoids (whole o) t) _ h)) (and-right (goodMembers ms) _ g) k ts)
+takes-sheet {slots = slots} {es = es} (unstopped {b = b} {t = t} z l) h g n ts =
+    takes-same (stops b (leadKey t)) slots n (within (barred b t)) (within t) ts ts es (some-line l) z (λ x e. rw e)
+    (takes-sheet l (and-right (apartBar b t) _ h) (and-right (leb 1 (barNumber b)) _ g) n ts)
 
 -- ---- and a message with it
 

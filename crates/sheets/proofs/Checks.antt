@@ -5,14 +5,15 @@ use mathlib.Core.Bool.{Bool, true, false, _&&_, _||_, not}
 use mathlib.Core.List.{List, [], _∷_, _++_, map}
 use lib.Dec.{leb, ltb}
 use Rattle.text.specs.Bytes.{begins, same}
+use Rattle.bars.specs.Bars.{Bar, surplus, only, goesOn, barNumber}
 use Rattle.stretches.specs.Stretches.{slotCount}
-use Rattle.sheets.specs.Trees.{Field, Member, Tree, last, line, block, group, chain}
+use Rattle.sheets.specs.Trees.{Field, Member, Tree, last, line, block, group, barred, chain}
 use Rattle.sheets.specs.Sheets.{Entry, edge, item, has}
-use Rattle.sheets.specs.Filled.{some, anyField, anyIn}
+use Rattle.sheets.specs.Filled.{some, anyField, anyIn, filled}
 use Rattle.sheets.specs.Plain.{Group}
 unfoldable pub use Rattle.sheets.specs.Slots.{fieldSlots, ownSlots, memberSlots, slotsOf, firstSlots, mustSlots}
 
--- ---- slots: from 1 on, as many as have a byte
+-- ---- slots: from 1 on, as many as have a byte; and a bar's number is not the 0 of a line that is taken
 
 unfoldable pub goodSlot : ℕ → Bool
 goodSlot s = leb 1 s && ltb s slotCount
@@ -30,6 +31,7 @@ goodTree (last c) = true
 goodTree (line f t) = goodSlot (f .slot) && goodTree t
 goodTree (block m o t u) = goodTree t && goodTree u
 goodTree (group n a o c ms t) = goodMembers ms && goodTree t
+goodTree (barred b t) = leb 1 (barNumber b) && goodTree t
 
 -- ---- texts: no line fits two rows between which it has to choose
 
@@ -55,6 +57,7 @@ avoids a (last c) = not (clash a (whole c))
 avoids a (line f t) = not (clash a (starts (f .key))) && avoids a t
 avoids a (block m o t u) = not (clash a (whole o)) && avoids a u
 avoids a (group n b o c ms t) = not (clash a (whole o)) && avoids a t
+avoids a (barred b t) = avoids a t
 
 unfoldable pub noneOf : List ℕ → List Member → Bool
 noneOf k [] = true
@@ -74,11 +77,34 @@ apartMembers c [] = true
 apartMembers c (m ∷ ms) =
     not (clash (whole c) (starts (m .key))) && (noneOf (m .key) ms && (apartFields (m .inside) c && (laterApart (m .inside) ms && apartMembers c ms)))
 
+-- no field of what is left of a block has this line. The first line of a block that follows may be this one: then the two are alike, and
+-- the first of them stands before the second does
+unfoldable pub unlike : List ℕ → Tree → Bool
+unlike o (last c) = true
+unlike o (line f t) = not (begins (f .key) o) && unlike o t
+unlike o (block m p t u) = unlike o u
+unlike o (group n a p c ms t) = unlike o t
+unlike o (barred b t) = unlike o t
+
+-- a field comes next
+unfoldable pub leads : Tree → Bool
+leads (last c) = false
+leads (line f t) = true
+leads (block m o t u) = false
+leads (group n a o c ms t) = false
+leads (barred b t) = false
+
+-- a block that comes once more than it may is none that follows, and words are those of the field that comes next
+unfoldable pub apartBar : Bar → Tree → Bool
+apartBar (surplus n o) t = avoids (whole o) t
+apartBar (only ws) t = leads t
+
 unfoldable pub apart : Tree → Bool
 apart (last c) = true
 apart (line f t) = avoids (starts (f .key)) t && apart t
-apart (block m o t u) = avoids (whole o) u && (apart t && apart u)
+apart (block m o t u) = unlike o u && (apart t && apart u)
 apart (group n a o c ms t) = avoids (whole o) t && (apartMembers c ms && apart t)
+apart (barred b t) = apartBar b t && apart t
 
 -- ---- the last line of all: no other row takes it
 
@@ -96,6 +122,7 @@ free z b (last c) = b || not (same c z)
 free z b (line f t) = not (begins (f .key) z) && free z b t
 free z b (block m o t u) = not (same o z) && (free z false t && free z b u)
 free z b (group n a o c ms t) = not (same o z) && (freeMembers z c ms && free z b t)
+free z b (barred a t) = free z b t
 
 -- ---- slots: what tells one of many blocks is no slot of a row before it
 
@@ -113,6 +140,7 @@ withTree slots (last c) = slots
 withTree slots (line f t) = withTree (f .slot ∷ slots) t
 withTree slots (block m o t u) = withTree (withTree slots t) u
 withTree slots (group n a o c ms t) = withTree (withMembers slots ms) t
+withTree slots (barred b t) = withTree slots t
 
 unfoldable pub onceMembers : List ℕ → List Member → Bool
 onceMembers slots [] = true
@@ -123,8 +151,10 @@ once slots (last c) = true
 once slots (line f t) = once (f .slot ∷ slots) t
 once slots (block m o t u) = once slots t && once (withTree slots t) u
 once slots (group n a o c ms t) = onceMembers slots ms && once (withMembers slots ms) t
+once slots (barred b t) = once slots t
 
--- ---- values: in what stands, where each of many blocks must come, each has its first field's; and none has a field's without it
+-- ---- values: in what stands, where each of many blocks must come, each has its first field's, and none has a field's without it; and of
+-- blocks that are alike none stands behind one that does not
 
 unfoldable pub allMembers : (ℕ → List ℕ) → List Member → Bool
 allMembers value [] = true
@@ -134,11 +164,36 @@ unfoldable pub wholeMembers : (ℕ → List ℕ) → List Member → Bool
 wholeMembers value [] = true
 wholeMembers value (m ∷ ms) = (some (value (m .slot)) || not (anyField value (m .inside))) && wholeMembers value ms
 
+-- a sheet begins with this line of a block
+unfoldable pub begun : List ℕ → List Entry → Bool
+begun o [] = false
+begun o (edge p ∷ es) = same o p
+begun o (item i k v ∷ es) = false
+
 unfoldable pub complete : (ℕ → List ℕ) → Tree → Bool
 complete value (last c) = true
 complete value (line f t) = complete value t
-complete value (block m o t u) = (not (m || anyIn value t) || complete value t) && complete value u
+complete value (block m o t u) =
+    (not (m || anyIn value t) || complete value t) && (((m || anyIn value t) || not (begun o (filled value u))) && complete value u)
 complete value (group n a o c ms t) = (not n || allMembers value ms) && (wholeMembers value ms && complete value t)
+complete value (barred b t) = complete value t
+
+-- ---- values: what stands behind a bar goes on with one of its words
+
+unfoldable pub wordedBar : (ℕ → List ℕ) → Bar → Tree → Bool
+wordedBar value (surplus n o) t = true
+wordedBar value (only ws) (last c) = true
+wordedBar value (only ws) (line f t) = not (f .must || some (value (f .slot))) || goesOn ws (value (f .slot))
+wordedBar value (only ws) (block m o t u) = true
+wordedBar value (only ws) (group n a o c ms t) = true
+wordedBar value (only ws) (barred b t) = true
+
+unfoldable pub worded : (ℕ → List ℕ) → Tree → Bool
+worded value (last c) = true
+worded value (line f t) = worded value t
+worded value (block m o t u) = (not (m || anyIn value t) || worded value t) && worded value u
+worded value (group n a o c ms t) = worded value t
+worded value (barred b t) = wordedBar value b t && worded value t
 
 -- ---- slots: each row has one of its own
 
@@ -159,6 +214,7 @@ sole (last c) = true
 sole (line f t) = not (has (slotsOf t) (f .slot)) && sole t
 sole (block m o t u) = disjoint (slotsOf t) (slotsOf u) && (sole t && sole u)
 sole (group n a o c ms t) = soleMembers ms && (disjoint (memberSlots ms) (slotsOf t) && sole t)
+sole (barred b t) = sole t
 
 -- ---- the blocks that may stand in any order, as specs/Plain puts them in order: the order is the tree's
 
@@ -170,6 +226,7 @@ groupsOf (last c) = []
 groupsOf (line f t) = groupsOf t
 groupsOf (block m o t u) = groupsOf t ++ groupsOf u
 groupsOf (group n a o c ms t) = record { opening = o; closing = c; keys = keysOf ms } ∷ groupsOf t
+groupsOf (barred b t) = groupsOf t
 
 -- ---- lines: the first and last line of many blocks are no other row's, and a block that need not stand is not empty
 
@@ -188,6 +245,7 @@ heavy (last c) = false
 heavy (line f t) = f .must || heavy t
 heavy (block m o t u) = heavy u
 heavy (group n a o c ms t) = heavy t
+heavy (barred b t) = heavy t
 
 unfoldable pub tellable : Tree → Bool
 tellable (last c) = true
@@ -200,6 +258,7 @@ tellable (group n a o c ms t) =
     (free o false t && free c false t)
     && ((freeMembers o c ms && (closedMembers c ms && (not (same c o) && apartMembers c ms)))
     && (allFree (groupsOf t) (λ x. not (same o x) && freeMembers x c ms) && tellable t))
+tellable (barred b t) = tellable t
 
 -- ---- no value of a sheet is empty
 
@@ -223,3 +282,4 @@ solid value (last c) = true
 solid value (line f t) = (not (f .must) || some (value (f .slot))) && solid value t
 solid value (block m o t u) = (not (m || anyIn value t) || solid value t) && solid value u
 solid value (group n a o c ms t) = solidMembers value ms && solid value t
+solid value (barred b t) = solid value t

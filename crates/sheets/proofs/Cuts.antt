@@ -4,20 +4,21 @@ use Prim.Native.Nat.{ℕ, suc}
 use mathlib.Core.Path.{_≡_, refl, sym, ap, _∙_}
 use mathlib.Core.Bool.{Bool, true, false, _&&_, _||_, not, cond, true≢false}
 use mathlib.Core.List.{List, [], _∷_, _++_, append-assoc, append-nil}
-use lib.Dec.{eqb}
+use lib.Dec.{eqb, leb}
 use lib.ListN.{length, drop}
 use lib.Seq.{drop-append-seam}
 use borrow.Author.Tests.{not-true}
 use Rattle.text.specs.Bytes.{begins, same}
 use Rattle.text.proofs.Bools.{of-both}
 use Rattle.text.proofs.Laws.{and-left, and-right, and-both, same-eq, begins-is}
+use Rattle.bars.specs.Bars.{stops, barNumber}
 use Rattle.layout.specs.Layout.{Taken, Run, refusedAt, taken, withTaken}
-use Rattle.sheets.specs.Trees.{Field, Member, Tree, last, line, block, group, chain}
-use Rattle.sheets.specs.Sheets.{Entry, edge, item, lineOf, linesIn, come, has, lacking, Among, front, later, Laid, shut, given, absent, opened, passed, member, done, Sheet}
+use Rattle.sheets.specs.Trees.{Field, Member, Tree, last, line, block, group, barred, chain, leadKey}
+use Rattle.sheets.specs.Sheets.{Entry, edge, item, lineOf, linesIn, foremost, come, has, lacking, Among, front, later, Laid, shut, given, absent, opened, passed, member, done, unstopped, Sheet}
 use Rattle.sheets.specs.Taking.{Spot, within, first, over, Move, no, go, fit, next, seek, laterField, tell, moveOf, following, walk, takenBy}
 use Rattle.sheets.proofs.Checks.{goodSlot, goodFields, goodMembers, goodTree, freeFields, freeMembers, free}
 use Rattle.sheets.proofs.Moves.{goodSpot, goodTrees, GoodMove, good-move}
-use Rattle.sheets.proofs.Accepts.{takenOn, come-append, not-zero}
+use Rattle.sheets.proofs.Accepts.{takenOn, come-append, not-zero, Some, some-line}
 
 -- ---- sheets of what is left
 
@@ -49,10 +50,14 @@ module _ (slots l : List ℕ) where
   Found P (go s w spot ts) =
       (es : List Entry) → LaidFrom (slotsAfter s slots) spot ts es → (e : Entry) × (lineOf e ≡ l) × Stands s w e × P (e ∷ es)
 
-  found-map : (P Q : List Entry → Type 0) (move : Move) → ((es : List Entry) → P es → Q es) → Found P move → Found Q move
-  unfolding Found
+  -- what holds of every sheet whose first line is this one
+  Onto : (List Entry → Type 0) → (List Entry → Type 0) → Type 0
+  Onto P Q = (e : Entry) (es : List Entry) → lineOf e ≡ l → P (e ∷ es) → Q (e ∷ es)
+
+  found-map : (P Q : List Entry → Type 0) (move : Move) → Onto P Q → Found P move → Found Q move
+  unfolding Found Onto
   found-map P Q (no k) f h = tt
-  found-map P Q (go s w spot ts) f h = λ es m. let r = h es m in (r .0, r .1, r .2, f (r .0 ∷ es) (r .3))
+  found-map P Q (go s w spot ts) f h = λ es m. let r = h es m in (r .0, r .1, r .2, f (r .0) es (r .1) (r .3))
 
   -- where a mandatory row was passed over nothing is taken
   Never : Move → Type 0
@@ -70,10 +75,11 @@ module _ (slots l : List ℕ) where
   never-seek (line f t) ts = of-both Never (begins (f .key) l) (λ e. tt) (λ e. never-seek t ts)
   never-seek (block m o t u) ts = of-both Never (same o l) (λ e. tt) (λ e. never-seek u ts)
   never-seek (group n a o c ms t) ts = of-both Never (same o l && (a || lacking slots ms)) (λ e. tt) (λ e. never-seek t ts)
+  never-seek (barred b t) ts = of-both Never (stops b (leadKey t) l) (λ e. tt) (λ e. never-seek t ts)
 
   -- a row that is passed over
   found-past : (P Q : List Entry → Type 0) (t : Tree) (ts : List Tree) (b : Bool)
-      → (b ≡ false → (es : List Entry) → P es → Q es) → Found P (seek slots l false ts t) → Found Q (seek slots l b ts t)
+      → (b ≡ false → Onto P Q) → Found P (seek slots l false ts t) → Found Q (seek slots l b ts t)
   found-past P Q t ts true f h = never-found Q (seek slots l true ts t) (never-seek t ts)
   found-past P Q t ts false f h = found-map P Q (seek slots l false ts t) (f refl) h
 
@@ -118,11 +124,17 @@ module _ (slots l : List ℕ) where
   unfolding Found LaidFrom slotsAfter Stands lineOf
   found-first n a o c ms t ts e = λ es h. (edge o, same-eq o l e, refl, h)
 
+  -- the first line of the first of two sheets, which is not empty
+  first-line : (t : Tree) (e : Entry) (es ds rest : List Entry) → Laid slots t ds → e ∷ es ≡ ds ++ rest → foremost ds ≡ lineOf e
+  unfolding foremost Some
+  first-line t e es [] rest i q = absurd (some-line i)
+  first-line t e es (x ∷ ds) rest i q = sym (ap foremost q)
+
   -- what is laid behind a row that is passed over
-  laid-past : (t u : Tree) (ts : List Tree) → ((ds : List Entry) → Laid slots t ds → Laid slots u ds)
-      → (es : List Entry) → LaidAll slots (t ∷ ts) es → LaidAll slots (u ∷ ts) es
-  unfolding LaidAll
-  laid-past t u ts f es h = (h .0, h .1, h .2, f (h .0) (h .3), h .4)
+  laid-past : (t u : Tree) (ts : List Tree) → ((ds : List Entry) → foremost ds ≡ l → Laid slots t ds → Laid slots u ds)
+      → Onto (LaidAll slots (t ∷ ts)) (LaidAll slots (u ∷ ts))
+  unfolding LaidAll Onto
+  laid-past t u ts f e es q h = (h .0, h .1, h .2, f (h .0) (first-line t e es (h .0) (h .1) (h .3) (h .2) ∙ q) (h .3), h .4)
 
   -- in a block
   found-block : (t : Tree) (ts : List Tree) → goodTree t ≡ true → Found (LaidAll slots (t ∷ ts)) (seek slots l false ts t)
@@ -131,18 +143,23 @@ module _ (slots l : List ℕ) where
   found-block (line f t) ts g =
       of-both (Found (LaidAll slots (line f t ∷ ts))) (begins (f .key) l) (λ e. found-line f t ts e (and-left _ _ g))
       (λ e. found-past (LaidAll slots (t ∷ ts)) (LaidAll slots (line f t ∷ ts)) t ts (f .must)
-      (λ m. laid-past t (line f t) ts (λ ds i. absent m i))
+      (λ m. laid-past t (line f t) ts (λ ds q i. absent m i))
       (found-block t ts (and-right (goodSlot (f .slot)) _ g)))
   found-block (block m o t u) ts g =
       of-both (Found (LaidAll slots (block m o t u ∷ ts))) (same o l) (found-open m o t u ts)
       (λ e. found-past (LaidAll slots (u ∷ ts)) (LaidAll slots (block m o t u ∷ ts)) u ts m
-      (λ z. laid-past u (block m o t u) ts (λ ds i. passed z i))
+      (λ z. laid-past u (block m o t u) ts (λ ds q i. passed z (rw q e) i))
       (found-block u ts (and-right (goodTree t) _ g)))
   found-block (group n a o c ms t) ts g =
       of-both (Found (LaidAll slots (group n a o c ms t ∷ ts))) (same o l && (a || lacking slots ms)) (λ e. found-first n a o c ms t ts (and-left _ _ e))
       (λ e. found-past (LaidAll slots (t ∷ ts)) (LaidAll slots (group n a o c ms t ∷ ts)) t ts (n && lacking slots ms)
-      (λ z. laid-past t (group n a o c ms t) ts (λ ds i. done (λ y. rw y at z) i))
+      (λ z. laid-past t (group n a o c ms t) ts (λ ds q i. done (λ y. rw y at z) i))
       (found-block t ts (and-right (goodMembers ms) _ g)))
+  found-block (barred b t) ts g =
+      of-both (Found (LaidAll slots (barred b t ∷ ts))) (stops b (leadKey t) l) (λ e. tt)
+      (λ e. found-map (LaidAll slots (t ∷ ts)) (LaidAll slots (barred b t ∷ ts)) (seek slots l false ts t)
+      (laid-past t (barred b t) ts (λ ds q i. unstopped (rw q e) i))
+      (found-block t ts (and-right (leb 1 (barNumber b)) _ g)))
 
   -- the first field of one of many blocks
   found-member : (n a : Bool) (o c : List ℕ) (ms : List Member) (t : Tree) (ts : List Tree) (m : Member)
@@ -241,6 +258,7 @@ module _ (z : List ℕ) where
         let r = and-right (freeMembers z c ms) _ (and-right (not (same o z)) _ h) in
         of-both Safe (same o l && (a || lacking slots ms)) (λ e. safe-fit p (go _ _ (first n a o c ms t) ts) (and-both {a = free z (bottom ts) (group n a o c ms t)} h k))
         (λ e. safe-seek t ts (p || (n && lacking slots ms)) r k)
+    safe-seek (barred b t) ts p h k = of-both Safe (stops b (leadKey t) l) (λ e. tt) (λ e. safe-seek t ts p h k)
 
     safe-tell : (ms : List Member) (c : List ℕ) (t : Tree) (ts : List Tree) → freeMembers z c ms ≡ true → safeTrees (t ∷ ts) ≡ true → Safe (tell slots l c t ts ms)
     unfolding tell freeMembers Safe safe safeTrees bottom
@@ -285,6 +303,7 @@ module _ (z : List ℕ) where
         let k = not (same o z) in
         rw (not-true (same o z) (and-left k _ h))
         (ends-seek t ts (p || (n && lacking slots ms)) (and-right (freeMembers z c ms) _ (and-right k _ h)))
+    ends-seek (barred b t) ts p h = of-both Ends (stops b (leadKey t) z) (λ e. tt) (λ e. ends-seek t ts p h)
 
     ends-tell : (ms : List Member) (c : List ℕ) (t : Tree) (ts : List Tree) → freeMembers z c ms ≡ true → Ends (tell slots z c t ts ms)
     unfolding tell freeMembers Ends

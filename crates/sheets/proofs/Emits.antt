@@ -2,19 +2,23 @@
 -- Assumes nothing.
 use Prim.Native.Nat.{ℕ}
 use mathlib.Core.Path.{_≡_, refl, sym, ap, _∙_}
-use mathlib.Core.Bool.{Bool, true, false, _||_, not, true≢false}
+use mathlib.Core.Bool.{Bool, true, false, _&&_, _||_, not, cond, true≢false}
 use mathlib.Core.List.{List, [], _∷_, _++_, append-assoc}
 use lib.Dec.{eqb}
+use lib.ListN.{length, drop}
 use borrow.Author.Tests.{eqb-true, eq-eqb, not-true}
+use lib.Seq.{drop-append-seam}
+use Rattle.text.specs.Bytes.{begins, same}
 use Rattle.text.proofs.Bools.{or-two, or-left, or-right, of-both}
-use Rattle.text.proofs.Laws.{and-left, and-right}
+use Rattle.text.proofs.Laws.{and-left, and-right, begins-append}
+use Rattle.bars.specs.Bars.{Bar, surplus, only, goesOn, strays, stops}
 use Rattle.layout.specs.Layout.{taken}
-use Rattle.sheets.specs.Trees.{Field, Member, Tree, last, line, block, group, chain}
-use Rattle.sheets.specs.Sheets.{Entry, edge, item, linesIn, come, has, lacking, Among, front, later, Laid, shut, given, absent, opened, passed, member, done, Sheet}
+use Rattle.sheets.specs.Trees.{Field, Member, Tree, last, line, block, group, barred, chain, leadKey}
+use Rattle.sheets.specs.Sheets.{Entry, edge, item, lineOf, linesIn, foremost, come, has, lacking, Among, front, later, Laid, shut, given, absent, opened, passed, member, done, unstopped, Sheet}
 use Rattle.sheets.specs.Taking.{takenBy}
 use Rattle.sheets.specs.Filled.{some, valueIn, anyField, anyMember, anyIn, filledFields, filledMembers, filled}
-use Rattle.sheets.proofs.Checks.{goodTree, apart, withFields, withMembers, withTree, onceMembers, once, allMembers, wholeMembers, complete}
-use Rattle.sheets.proofs.Accepts.{takenOn, come-append, reads}
+use Rattle.sheets.proofs.Checks.{goodTree, Fit, starts, whole, fitsLine, clash, avoids, apartMembers, unlike, leads, apartBar, apart, withFields, withMembers, withTree, onceMembers, once, allMembers, wholeMembers, begun, complete, wordedBar, worded}
+use Rattle.sheets.proofs.Accepts.{clear-key, clear-line, takenOn, come-append, reads}
 
 -- ---- the slots that come, beside all that might: a relation of the two that holds at the start holds at the end
 
@@ -43,6 +47,7 @@ module _ (value : ℕ → List ℕ) (R : List ℕ → List ℕ → Type 0)
       past-tree u slots (withTree all t) (or-right (anyIn value t) _ h) (past-tree t slots all (or-left _ _ h) r)
   past-tree (group n a o c ms t) slots all h r =
       past-tree t slots (withMembers all ms) (or-right (anyMember value ms) _ h) (past-members ms slots all (or-left _ _ h) r)
+  past-tree (barred b t) slots all h r = past-tree t slots all h r
 
   -- rows that are filled
   through-fields : (fs : List Field) (c slots all : List ℕ) → R slots all → R (come slots (filledFields value fs c)) (withFields all fs)
@@ -75,7 +80,7 @@ module _ (value : ℕ → List ℕ) (R : List ℕ → List ℕ → Type 0)
       (λ e. through-tree t slots (f .slot ∷ all) h (skip (f .slot) slots all (or-right (f .must) _ e) r))
   through-tree (block m o t u) slots all h r =
       let c = not (m || anyIn value t) || complete value t in
-      let k = and-right c _ h in
+      let k = and-right ((m || anyIn value t) || not (begun o (filled value u))) _ (and-right c _ h) in
       of-both (λ es. R (come slots es) (withTree (withTree all t) u)) (m || anyIn value t)
       (λ e. rw (come-append slots (filled value t) (filled value u)) (through-tree u _ _ k (through-tree t slots all (rw e at (and-left c _ h)) r)))
       (λ e. through-tree u slots _ k (past-tree t slots all (or-right m _ e) r))
@@ -83,6 +88,7 @@ module _ (value : ℕ → List ℕ) (R : List ℕ → List ℕ → Type 0)
       let k = and-right (not n || allMembers value ms) _ h in
       rw (come-append slots (filledMembers value o c ms) (filled value t))
       (through-tree t _ _ (and-right (wholeMembers value ms) _ k) (through-members o c ms slots all (and-left _ _ k) r))
+  through-tree (barred b t) slots all h r = through-tree t slots all h r
 
 -- ---- two such relations
 
@@ -128,6 +134,25 @@ come-more (item i k v ∷ es) slots s h = come-more es (i ∷ slots) s (or-two (
 pub has-front : (s : ℕ) (slots : List ℕ) → has (s ∷ slots) s ≡ true
 unfolding has
 has-front s slots = rw (eq-eqb s s refl)
+
+-- ---- the first line of a sheet is that of a block, or fits none
+
+not-begun : (o : List ℕ) {slots : List ℕ} {t : Tree} {es : List Entry} → Laid slots t es → unlike o t ≡ true → begun o es ≡ false → same o (foremost es) ≡ false
+unfolding unlike begun foremost lineOf fitsLine clash
+not-begun o shut h e = e
+not-begun o (given {f = f} v l) h e = clear-key (whole o) (f .key) v (and-left _ _ h)
+not-begun o (absent {f = f} z l) h e = not-begun o l (and-right (not (begins (f .key) o)) _ h) e
+not-begun o (opened l r) h e = e
+not-begun o (passed z g r) h e = not-begun o r h e
+not-begun o (member v i z l r) h e = e
+not-begun o (done z l) h e = not-begun o l h e
+not-begun o (unstopped z l) h e = not-begun o l h e
+
+pub begun-line : (o : List ℕ) (es : List Entry) → same o (foremost es) ≡ false → begun o es ≡ false
+unfolding begun foremost lineOf
+begun-line o [] h = refl
+begun-line o (edge p ∷ es) h = h
+begun-line o (item i k v ∷ es) h = refl
 
 -- ---- a table filled in is a sheet
 
@@ -182,33 +207,91 @@ module _ (value : ℕ → List ℕ) where
       let q = come-more (filledMembers value o c ms) before (m .slot) (come-more fields (m .slot ∷ slots) (m .slot) (has-front (m .slot) slots)) in
       rw (v, come-append (m .slot ∷ slots) fields (filledMembers value o c ms), q) (none-lacks o c ms before (and-right (some (value (m .slot))) _ h))
 
-  laid-filled : (t : Tree) (slots all : List ℕ) → once all t ≡ true → complete value t ≡ true → Sub slots all → Laid slots t (filled value t)
-  unfolding filled once complete
-  laid-filled (last c) slots all h k r = shut
-  laid-filled (line f t) slots all h k r =
+  -- the first line of a table filled in fits none that the table avoids
+  clear-members : (a : Fit) (o c : List ℕ) (ms : List Member) (rest : List Entry) → fitsLine a o ≡ false → fitsLine a (foremost rest) ≡ false
+      → fitsLine a (foremost (filledMembers value o c ms ++ rest)) ≡ false
+  unfolding filledMembers foremost lineOf
+  clear-members a o c [] rest h k = k
+  clear-members a o c (m ∷ ms) rest h k =
+      of-both (λ (es : List Entry). fitsLine a (foremost (es ++ rest)) ≡ false) (some (value (m .slot))) (λ e. h) (λ e. clear-members a o c ms rest h k)
+
+  pub clear-filled : (a : Fit) (t : Tree) → avoids a t ≡ true → fitsLine a (foremost (filled value t)) ≡ false
+  unfolding avoids filled foremost lineOf
+  clear-filled a (last c) h = clear-line a c h
+  clear-filled a (line f t) h =
+      of-both (λ (es : List Entry). fitsLine a (foremost es) ≡ false) (f .must || some (value (f .slot)))
+      (λ e. clear-key a (f .key) (value (f .slot)) (and-left _ _ h)) (λ e. clear-filled a t (and-right (not (clash a (starts (f .key)))) _ h))
+  clear-filled a (block m o t u) h =
+      of-both (λ (es : List Entry). fitsLine a (foremost es) ≡ false) (m || anyIn value t)
+      (λ e. clear-line a o (and-left _ _ h)) (λ e. clear-filled a u (and-right (not (clash a (whole o))) _ h))
+  clear-filled a (group n b o c ms t) h =
+      clear-members a o c ms (filled value t) (clear-line a o (and-left _ _ h)) (clear-filled a t (and-right (not (clash a (whole o))) _ h))
+  clear-filled a (barred b t) h = clear-filled a t h
+
+  -- where words stop a line, the one that stands there goes on with one of them
+  words-pass : (ws : List ℕ) (t : Tree) → leads t ≡ true → apart t ≡ true → wordedBar value (only ws) t ≡ true
+      → strays (leadKey t) ws (foremost (filled value t)) ≡ false
+  unfolding leads wordedBar strays leadKey foremost filled lineOf apart fitsLine
+  words-pass ws (last c) h a w = absurd (true≢false (sym h))
+  words-pass ws (line f t) h a w = on (f .must || some (value (f .slot))) refl
+    where
+      on : (b : Bool) → (f .must || some (value (f .slot))) ≡ b
+          → (begins (f .key) (foremost (cond b (item (f .slot) (f .key) (value (f .slot)) ∷ filled value t) (filled value t)))
+          && not (goesOn ws (drop (length (f .key)) (foremost (cond b (item (f .slot) (f .key) (value (f .slot)) ∷ filled value t) (filled value t)))))) ≡ false
+      on true e =
+          let g : goesOn ws (value (f .slot)) ≡ true = rw e at w in
+          rw (begins-append (f .key) (value (f .slot)), drop-append-seam (f .key) (value (f .slot)), g)
+      on false e = rw (clear-filled (starts (f .key)) t (and-left _ _ a))
+  words-pass ws (block m o t u) h a w = absurd (true≢false (sym h))
+  words-pass ws (group n b o c ms t) h a w = absurd (true≢false (sym h))
+  words-pass ws (barred b t) h a w = absurd (true≢false (sym h))
+
+  -- a bar lets the first line pass
+  bar-passes : (b : Bar) (t : Tree) → apartBar b t ≡ true → apart t ≡ true → wordedBar value b t ≡ true → stops b (leadKey t) (foremost (filled value t)) ≡ false
+  unfolding stops apartBar fitsLine
+  bar-passes (surplus n o) t h a w = clear-filled (whole o) t h
+  bar-passes (only ws) t h a w = words-pass ws t h a w
+
+  laid-filled : (t : Tree) (slots all : List ℕ) → once all t ≡ true → apart t ≡ true → worded value t ≡ true → complete value t ≡ true → Sub slots all
+      → Laid slots t (filled value t)
+  unfolding filled once apart worded complete
+  laid-filled (last c) slots all h a w k r = shut
+  laid-filled (line f t) slots all h a w k r =
+      let a' = and-right (avoids (starts (f .key)) t) _ a in
       of-both (Laid slots (line f t)) (f .must || some (value (f .slot)))
-      (λ e. given (value (f .slot)) (laid-filled t (f .slot ∷ slots) (f .slot ∷ all) h k (sub-both (f .slot) slots all r)))
-      (λ e. absent (or-left (f .must) _ e) (laid-filled t slots (f .slot ∷ all) h k (sub-more (f .slot) slots all r)))
-  laid-filled (block m o t u) slots all h k r =
+      (λ e. given (value (f .slot)) (laid-filled t (f .slot ∷ slots) (f .slot ∷ all) h a' w k (sub-both (f .slot) slots all r)))
+      (λ e. absent (or-left (f .must) _ e) (laid-filled t slots (f .slot ∷ all) h a' w k (sub-more (f .slot) slots all r)))
+  laid-filled (block m o t u) slots all h a w k r =
       let h' = and-right (once all t) _ h in
+      let at = and-left (apart t) _ (and-right (unlike o u) _ a) in
+      let au = and-right (apart t) _ (and-right (unlike o u) _ a) in
+      let x = not (m || anyIn value t) || worded value t in
+      let wu = and-right x _ w in
       let c = not (m || anyIn value t) || complete value t in
-      let k' = and-right c _ k in
+      let d = (m || anyIn value t) || not (begun o (filled value u)) in
+      let k' = and-right d _ (and-right c _ k) in
+      let gap = and-left d _ (and-right c _ k) in
       of-both (Laid slots (block m o t u)) (m || anyIn value t)
-      (λ e. opened (laid-filled t slots all (and-left _ _ h) (rw e at (and-left c _ k)) r)
-      (laid-filled u _ (withTree all t) h' k' (through-tree value Sub sub-both subs t slots all (rw e at (and-left c _ k)) r)))
-      (λ e. passed (or-left m _ e) (laid-filled u slots (withTree all t) h' k' (past-tree value Sub sub-both subs t slots all (or-right m _ e) r)))
-  laid-filled (group n a o c ms t) slots all h k r =
+      (λ e. opened (laid-filled t slots all (and-left _ _ h) at (rw e at (and-left x _ w)) (rw e at (and-left c _ k)) r)
+      (laid-filled u _ (withTree all t) h' au wu k' (through-tree value Sub sub-both subs t slots all (rw e at (and-left c _ k)) r)))
+      (λ e. let l = laid-filled u slots (withTree all t) h' au wu k' (past-tree value Sub sub-both subs t slots all (or-right m _ e) r) in
+      passed (or-left m _ e) (not-begun o l (and-left (unlike o u) _ a) (not-true _ (rw e at gap))) l)
+  laid-filled (group n b o c ms t) slots all h a w k r =
       let k' = and-right (not n || allMembers value ms) _ k in
       let s = come slots (filledMembers value o c ms) in
-      laid-members n a o c ms ms t slots all (filled value t) (λ m i. i) (and-left _ _ h) r
+      laid-members n b o c ms ms t slots all (filled value t) (λ m i. i) (and-left _ _ h) r
       (done (λ e. none-lacks o c ms slots (rw e at (and-left (not n || allMembers value ms) _ k)))
-      (laid-filled t s (withMembers all ms) (and-right (onceMembers all ms) _ h) (and-right (wholeMembers value ms) _ k')
-      (through-members value Sub sub-both subs o c ms slots all (and-left _ _ k') r)))
+      (laid-filled t s (withMembers all ms) (and-right (onceMembers all ms) _ h) (and-right (apartMembers c ms) _ (and-right (avoids (whole o) t) _ a)) w
+      (and-right (wholeMembers value ms) _ k') (through-members value Sub sub-both subs o c ms slots all (and-left _ _ k') r)))
+  laid-filled (barred b t) slots all h a w k r =
+      let a' = and-right (apartBar b t) _ a in
+      let l = laid-filled t slots all h a' (and-right (wordedBar value b t) _ w) k r in
+      unstopped (bar-passes b t (and-left (apartBar b t) _ a) a' (and-left (wordedBar value b t) _ w)) l
 
 -- a table filled in is a sheet of the table
-pub emits : (value : ℕ → List ℕ) (t : Tree) → once [] t ≡ true → complete value t ≡ true → Sheet t (filled value t)
+pub emits : (value : ℕ → List ℕ) (t : Tree) → once [] t ≡ true → apart t ≡ true → worded value t ≡ true → complete value t ≡ true → Sheet t (filled value t)
 unfolding Sub
-emits value t h k = laid-filled value t [] [] h k (λ s e. e)
+emits value t h a w k = laid-filled value t [] [] h a w k (λ s e. e)
 
 -- ---- the values of a table that was filled in
 
@@ -245,6 +328,7 @@ module _ (value : ℕ → List ℕ) where
   fits-filled (block m o t u) =
       of-both (Fits value) (m || anyIn value t) (λ e. fits-append value (filled value t) _ (fits-filled t) (fits-filled u)) (λ e. fits-filled u)
   fits-filled (group n a o c ms t) = fits-append value (filledMembers value o c ms) _ (fits-members o c ms) (fits-filled t)
+  fits-filled (barred b t) = fits-filled t
 
   -- a slot that came has its value, and one that did not has none
   value-come : (es : List Entry) (slots : List ℕ) (s : ℕ) → Fits value es → has slots s ≡ false → has (come slots es) s ≡ true → valueIn es s ≡ value s
@@ -284,6 +368,6 @@ module _ (value : ℕ → List ℕ) where
       on false e = absent-is e _ refl
 
 -- and a message that is laid out so is taken with them
-pub round : (value : ℕ → List ℕ) (t : Tree) (n : ℕ) → goodTree t ≡ true → apart t ≡ true → once [] t ≡ true → complete value t ≡ true
+pub round : (value : ℕ → List ℕ) (t : Tree) (n : ℕ) → goodTree t ≡ true → apart t ≡ true → once [] t ≡ true → worded value t ≡ true → complete value t ≡ true
     → takenBy t n (linesIn (filled value t)) ≡ taken (takenOn n (filled value t))
-round value t n g a o k = reads t (filled value t) n g a (emits value t o k)
+round value t n g a o w k = reads t (filled value t) n g a (emits value t o a w k)

@@ -7,8 +7,8 @@ use mathlib.Core.List.{List, [], _∷_, _++_}
 use Rattle.text.specs.Bytes.{begins, same}
 use Rattle.text.proofs.Bools.{or-none, or-left, or-right}
 use Rattle.text.proofs.Laws.{and-left, and-right}
-use Rattle.sheets.specs.Trees.{Tree, last, line, block, group}
-use Rattle.sheets.specs.Sheets.{Entry, edge, item, lineOf, linesIn, Laid, shut, given, absent, opened, passed, member, done}
+use Rattle.sheets.specs.Trees.{Tree, last, line, block, group, barred}
+use Rattle.sheets.specs.Sheets.{Entry, edge, item, lineOf, linesIn, Laid, shut, given, absent, opened, passed, member, done, unstopped}
 use Rattle.sheets.specs.Plain.{anyLine}
 use Rattle.sheets.proofs.Checks.{freeMembers, free}
 use Rattle.sheets.proofs.Picking.{key-misses, line-misses, laid-misses, among-free, chain-free}
@@ -18,6 +18,7 @@ lastLine (last c) = c
 lastLine (line f t) = lastLine t
 lastLine (block m o t u) = lastLine u
 lastLine (group n a o c ms t) = lastLine t
+lastLine (barred b t) = lastLine t
 
 -- lines none of which is z, and then z
 abbrev pub EndsIn : List ℕ → List Entry → Type 0
@@ -45,10 +46,11 @@ module _ (z : List ℕ) where
       let k = and-right (not (same o z)) _ h in
       one-more (edge o) (es ++ ds) (line-misses z o (and-left _ _ h))
       (all-more es ds (laid-misses z l (and-left _ _ k)) (laid-ends r (and-right (free z false t) _ k) e))
-  laid-ends (passed {o = o} {t = t} m r) h e = laid-ends r (and-right (free z false t) _ (and-right (not (same o z)) _ h)) e
+  laid-ends (passed {o = o} {t = t} m g r) h e = laid-ends r (and-right (free z false t) _ (and-right (not (same o z)) _ h)) e
   laid-ends (member {o = o} {c = c} {ms = ms} {m = m} {es = es} {ds = ds} v i w l r) h e =
       let g = among-free z c i (and-left (freeMembers z c ms) _ (and-right (not (same o z)) _ h)) in
       one-more (edge o) (item (m .slot) (m .key) v ∷ (es ++ ds)) (line-misses z o (and-left _ _ h))
       (one-more (item (m .slot) (m .key) v) (es ++ ds) (key-misses z (m .key) v (g .0))
       (all-more es ds (laid-misses z l (sym (chain-free z (m .inside) c) ∙ g .1)) (laid-ends r h e)))
   laid-ends (done {o = o} {c = c} {ms = ms} w l) h e = laid-ends l (and-right (freeMembers z c ms) _ (and-right (not (same o z)) _ h)) e
+  laid-ends (unstopped w l) h e = laid-ends l h e

@@ -13,3 +13,5 @@ pub mod Solid
 pub mod Ends
 pub mod Settled
 pub mod Loose
+pub mod Repeats
+pub mod Cases

@@ -1,5 +1,5 @@
--- A table whose values stand together whatever they are, where all that must stand has one: a block that need not stand has one field, and
--- blocks in any order have no mandatory field behind their first, and none at all where they need not all come.
+-- A table whose values stand together whatever they are, where all that must stand has one: a block that need not stand has one field and
+-- is like none that follows, and blocks in any order have no mandatory field behind their first, and none at all where they need not all come.
 -- Assumes nothing.
 use Prim.Native.Nat.{ℕ}
 use mathlib.Core.Path.{_≡_, refl, sym, ap, _∙_}
@@ -8,12 +8,12 @@ use mathlib.Core.List.{List, [], _∷_, _++_}
 use lib.Dec.{eqb}
 use Rattle.text.proofs.Bools.{or-case, or-one, or-two}
 use Rattle.text.proofs.Laws.{and-left, and-right, and-both}
-use Rattle.sheets.specs.Trees.{Field, Member, Tree, last, line, block, group}
+use Rattle.sheets.specs.Trees.{Field, Member, Tree, last, line, block, group, barred}
 use Rattle.sheets.specs.Sheets.{has}
 use Rattle.sheets.specs.Slots.{fieldSlots, ownSlots, memberSlots, slotsOf, firstSlots, mustSlots}
-use Rattle.sheets.specs.Filled.{some, anyField, anyIn}
-use Rattle.sheets.proofs.Checks.{allMembers, wholeMembers, complete, solidFields, solidMembers, solid}
-use Rattle.sheets.proofs.Emits.{has-front}
+use Rattle.sheets.specs.Filled.{some, anyField, anyIn, filled}
+use Rattle.sheets.proofs.Checks.{whole, fitsLine, avoids, begun, allMembers, wholeMembers, complete, solidFields, solidMembers, solid}
+use Rattle.sheets.proofs.Emits.{begun-line, has-front, clear-filled}
 use Rattle.sheets.proofs.Once.{has-append}
 
 -- ---- the test
@@ -25,8 +25,10 @@ lone (line f (last c)) = true
 lone (line f (line g t)) = false
 lone (line f (block m o t u)) = false
 lone (line f (group n a o c ms t)) = false
+lone (line f (barred b t)) = false
 lone (block m o t u) = false
 lone (group n a o c ms t) = false
+lone (barred b t) = false
 
 -- the fields behind the first of one of many blocks, by whether each of these must come
 unfoldable pub looseFields : Bool → List Field → Bool
@@ -40,8 +42,9 @@ looseMembers n (m ∷ ms) = looseFields n (m .inside) && looseMembers n ms
 unfoldable pub loose : Tree → Bool
 loose (last c) = true
 loose (line f t) = loose t
-loose (block m o t u) = cond m (loose t) (lone t) && loose u
+loose (block m o t u) = cond m (loose t) (lone t && avoids (whole o) u) && loose u
 loose (group n a o c ms t) = looseMembers n ms && loose t
+loose (barred b t) = loose t
 
 -- ---- what must stand is one of the slots
 
@@ -67,6 +70,7 @@ must-slots (last c) s h = h
 must-slots (line f t) s h = chosen (f .must) (f .slot ∷ []) (mustSlots t) (f .slot ∷ []) (slotsOf t) s (λ e. e) (must-slots t s) h
 must-slots (block m o t u) s h = chosen m (mustSlots t) (mustSlots u) (slotsOf t) (slotsOf u) s (must-slots t s) (must-slots u s) h
 must-slots (group n a o c ms t) s h = chosen n (firstSlots ms) (mustSlots t) (memberSlots ms) (slotsOf t) s (firsts ms s) (must-slots t s) h
+must-slots (barred b t) s h = must-slots t s h
 
 -- ---- values, where what must stand has one
 
@@ -128,8 +132,15 @@ module _ (v : ℕ → List ℕ) where
   lone-stands (line f (line g t)) h = absurd (true≢false (sym h))
   lone-stands (line f (block m o t u)) h = absurd (true≢false (sym h))
   lone-stands (line f (group n a o c ms t)) h = absurd (true≢false (sym h))
+  lone-stands (line f (barred b t)) h = absurd (true≢false (sym h))
   lone-stands (block m o t u) h = absurd (true≢false (sym h))
   lone-stands (group n a o c ms t) h = absurd (true≢false (sym h))
+  lone-stands (barred b t) h = absurd (true≢false (sym h))
+
+  -- where its first line is none that follows, none does
+  pub none-begun : (o : List ℕ) (u : Tree) → avoids (whole o) u ≡ true → begun o (filled v u) ≡ false
+  unfolding fitsLine
+  none-begun o u h = begun-line o (filled v u) (clear-filled v (whole o) u h)
 
   -- ---- the whole
 
@@ -148,10 +159,14 @@ module _ (v : ℕ → List ℕ) where
       let (c, d) = stand-together u (stands-rest true (mustSlots t) (mustSlots u) k) (and-right (loose t) _ h) in
       (and-both a c, and-both b d)
   stand-together (block false o t u) k h =
-      let (a, b) = lone-stands t (and-left _ _ h) in
-      let (c, d) = stand-together u k (and-right (lone t) _ h) in
-      (and-both (or-two (not (anyIn v t)) _ a) c, and-both b d)
+      let l = and-left (lone t && avoids (whole o) u) _ h in
+      let (a, b) = lone-stands t (and-left (lone t) _ l) in
+      let (c, d) = stand-together u k (and-right (lone t && avoids (whole o) u) _ h) in (
+        and-both (or-two (not (anyIn v t)) _ a) (and-both (or-two (anyIn v t) _ (ap not (none-begun o u (and-right (lone t) _ l)))) c),
+        and-both b d,
+      )
   stand-together (group n a o c ms t) k h =
       let (x, y) = stand-together t (stands-rest n (firstSlots ms) (mustSlots t) k) (and-right (looseMembers n ms) _ h) in
       let w = members-whole n ms (and-left _ _ h) (λ e. stands-first (firstSlots ms) (mustSlots t) (rw e at k)) in
       (and-both (and-left (not n || allMembers v ms) _ w) (and-both (and-right (not n || allMembers v ms) _ w) x), and-both (members-solid n ms (and-left _ _ h)) y)
+  stand-together (barred b t) k h = stand-together t k h

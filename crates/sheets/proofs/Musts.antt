@@ -7,8 +7,8 @@ use mathlib.Core.List.{List, [], _∷_, _++_, map}
 use lib.Dec.{eqb}
 use borrow.Author.Tests.{eqb-true, not-false}
 use Rattle.text.proofs.Bools.{or-case, or-one, or-two, or-left, or-right}
-use Rattle.sheets.specs.Trees.{Field, Member, Tree, last, line, block, group}
-use Rattle.sheets.specs.Sheets.{Entry, edge, item, lineOf, linesIn, come, has, lacking, Laid, shut, given, absent, opened, passed, member, done, Sheet}
+use Rattle.sheets.specs.Trees.{Field, Member, Tree, last, line, block, group, barred}
+use Rattle.sheets.specs.Sheets.{Entry, edge, item, lineOf, linesIn, come, has, lacking, Laid, shut, given, absent, opened, passed, member, done, unstopped, Sheet}
 use Rattle.sheets.specs.Filled.{some, anyField, anyMember, anyIn, filledFields, filledMembers, filled}
 use Rattle.sheets.proofs.Checks.{firstSlots, mustSlots}
 use Rattle.sheets.proofs.Accepts.{come-append}
@@ -54,10 +54,11 @@ musts-come s (absent {f = f} {t = t} z l) h = musts-come s l (rw z at h)
 musts-come {slots = slots} s (opened {m = m} {t = t} {u = u} {es = es} {ds = ds} l r) h =
     rw (come-append slots es ds)
     (must-one m (mustSlots t) (mustSlots u) (come (come slots es) ds) s (λ b e. come-more ds (come slots es) s (musts-come s l e)) (λ e. musts-come s r e) h)
-musts-come s (passed {m = m} z r) h = musts-come s r (rw z at h)
+musts-come s (passed {m = m} z g r) h = musts-come s r (rw z at h)
 musts-come {slots = slots} s (member {m = m} {es = es} {ds = ds} v i z l r) h = rw (come-append (m .slot ∷ slots) es ds) (musts-come s r h)
 musts-come {slots = slots} {es = es} s (done {n = n} {ms = ms} {t = t} z l) h =
     must-one n (firstSlots ms) (mustSlots t) (come slots es) s (λ b e. come-more es slots s (none-lacking slots ms s (z b) e)) (λ e. musts-come s l e) h
+musts-come s (unstopped z l) h = musts-come s l h
 
 -- a mandatory slot is in every sheet
 pub musts : (t : Tree) (es : List Entry) (s : ℕ) → Sheet t es → has (mustSlots t) s ≡ true → has (slotsHeld es) s ≡ true
@@ -85,6 +86,7 @@ module _ (g : List ℕ → List ℕ) (v w : ℕ → List ℕ) where
   TurnedTree (line f t) = Turned (f .slot) (f .key) × TurnedTree t
   TurnedTree (block m o t u) = (g o ≡ o) × (TurnedTree t × TurnedTree u)
   TurnedTree (group n a o c ms t) = (g o ≡ o) × ((g c ≡ c) × (TurnedMembers ms × TurnedTree t))
+  TurnedTree (barred b t) = TurnedTree t
 
   lines-map : (es ds : List Entry) → map g (linesIn (es ++ ds)) ≡ map g (linesIn es) ++ map g (linesIn ds)
   unfolding linesIn
@@ -156,6 +158,7 @@ module _ (g : List ℕ → List ℕ) (v w : ℕ → List ℕ) where
   any-tree (line f t) h = rw (h .0 .1, any-tree t (h .1))
   any-tree (block m o t u) h = rw (any-tree t (h .1 .0), any-tree u (h .1 .1))
   any-tree (group n a o c ms t) h = rw (any-members ms (h .1 .1 .0), any-tree t (h .1 .1 .1))
+  any-tree (barred b t) h = any-tree t h
 
   pub turned : (t : Tree) → TurnedTree t → map g (linesIn (filled v t)) ≡ linesIn (filled w t)
   unfolding filled TurnedTree Turned Alike
@@ -176,3 +179,4 @@ module _ (g : List ℕ → List ℕ) (v w : ℕ → List ℕ) where
       (alike-edge o _ _ (h .0) (alike-both _ _ x y (turned t (h .1 .0)) r)) r)
   turned (group n a o c ms t) h =
       alike-both (filledMembers v o c ms) (filledMembers w o c ms) (filled v t) (filled w t) (turned-members o c ms (h .0) (h .1 .0) (h .1 .1 .0)) (turned t (h .1 .1 .1))
+  turned (barred b t) h = turned t h

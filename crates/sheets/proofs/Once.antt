@@ -10,7 +10,7 @@ use borrow.Author.Tests.{eqb-true, eqb-false, not-true, eq-eqb, ne-eqb}
 use Rattle.text.proofs.Bools.{is-false, or-case, or-one, or-two, or-none, or-left, or-right}
 use Rattle.text.proofs.Laws.{and-left, and-right}
 use Rattle.sheets.specs.Trees.{Field, Member, Tree, group, chain}
-use Rattle.sheets.specs.Sheets.{Entry, edge, item, has, Among, front, later, Laid, shut, given, absent, opened, passed, member, done}
+use Rattle.sheets.specs.Sheets.{Entry, edge, item, has, Among, front, later, Laid, shut, given, absent, opened, passed, member, done, unstopped}
 use Rattle.sheets.specs.Filled.{valueIn}
 use Rattle.sheets.proofs.Emits.{has-front, come-more, Fits}
 use Rattle.sheets.proofs.Checks.{fieldSlots, ownSlots, memberSlots, slotsOf, disjoint, distinct, soleMembers, sole}
@@ -66,7 +66,7 @@ inside s (opened {t = t} {u = u} {es = es} {ds = ds} l r) h =
     rw (has-append (slotsOf t) (slotsOf u) s)
     (or-case (has (slotsHeld es) s) (has (slotsHeld ds) s) (rw (has-held es ds s) at h)
     (λ e. or-one _ _ (inside s l e)) (λ e. or-two (has (slotsOf t) s) _ (inside s r e)))
-inside s (passed {t = t} {u = u} z r) h = rw (has-append (slotsOf t) (slotsOf u) s) (or-two (has (slotsOf t) s) _ (inside s r h))
+inside s (passed {t = t} {u = u} z g r) h = rw (has-append (slotsOf t) (slotsOf u) s) (or-two (has (slotsOf t) s) _ (inside s r h))
 inside s (member {c = c} {ms = ms} {t = t} {m = m} {es = es} {ds = ds} v i z l r) h =
     or-case (eqb (m .slot) s) (has (slotsHeld (es ++ ds)) s) h
     (λ e. rw (has-append (memberSlots ms) (slotsOf t) s) (or-one _ _ (among-slots s i (or-one _ _ e))))
@@ -75,6 +75,7 @@ inside s (member {c = c} {ms = ms} {t = t} {m = m} {es = es} {ds = ds} v i z l r
     (or-one _ _ (among-slots s i (or-two (eqb (m .slot) s) _ (rw (chain-slots (m .inside) c) at (inside s l q))))))
     (λ q. inside s r q))
 inside s (done {ms = ms} {t = t} z l) h = rw (has-append (memberSlots ms) (slotsOf t) s) (or-two (has (memberSlots ms) s) _ (inside s l h))
+inside s (unstopped z l) h = inside s l h
 
 -- what is not the table's is not in the sheet
 pub outside : {slots : List ℕ} {t : Tree} {es : List Entry} (s : ℕ) → Laid slots t es → has (slotsOf t) s ≡ false → has (slotsHeld es) s ≡ false
@@ -159,7 +160,7 @@ comes-once (opened {t = t} {u = u} {es = es} {ds = ds} l r) h =
     let k = and-right (disjoint (slotsOf t) (slotsOf u)) _ h in
     once-append es ds (comes-once l (and-left _ _ k)) (comes-once r (and-right (sole t) _ k))
     (λ s e. outside s r (apart-lists (slotsOf t) (slotsOf u) s (and-left _ _ h) (inside s l e)))
-comes-once (passed {t = t} {u = u} z r) h = comes-once r (and-right (sole t) _ (and-right (disjoint (slotsOf t) (slotsOf u)) _ h))
+comes-once (passed {t = t} {u = u} z g r) h = comes-once r (and-right (sole t) _ (and-right (disjoint (slotsOf t) (slotsOf u)) _ h))
 comes-once {slots = slots} (member {c = c} {ms = ms} {t = t} {m = m} {es = es} {ds = ds} v i z l r) h =
     let sm = and-left (soleMembers ms) _ h in
     let dj = and-left (disjoint (memberSlots ms) (slotsOf t)) _ (and-right (soleMembers ms) _ h) in
@@ -174,6 +175,7 @@ comes-once {slots = slots} (member {c = c} {ms = ms} {t = t} {m = m} {es = es} {
           (λ s e. again s (own-held m c s l e)),
     )
 comes-once (done {ms = ms} {t = t} z l) h = comes-once l (and-right (disjoint (memberSlots ms) (slotsOf t)) _ (and-right (soleMembers ms) _ h))
+comes-once (unstopped z l) h = comes-once l h
 
 -- ---- and so each line has the value of its slot
 

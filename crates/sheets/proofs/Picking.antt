@@ -9,8 +9,8 @@ use borrow.Author.Tests.{not-true}
 use Rattle.text.specs.Bytes.{begins, same}
 use Rattle.text.proofs.Bools.{is-false, or-two, or-none, or-left, or-right, of-both}
 use Rattle.text.proofs.Laws.{and-left, and-right, same-refl, same-eq, begins-append}
-use Rattle.sheets.specs.Trees.{Field, Member, Tree, last, line, block, group, chain}
-use Rattle.sheets.specs.Sheets.{Entry, lineOf, linesIn, Among, front, later, Laid, shut, given, absent, opened, passed, member, done}
+use Rattle.sheets.specs.Trees.{Field, Member, Tree, last, line, block, group, barred, chain}
+use Rattle.sheets.specs.Sheets.{Entry, lineOf, linesIn, Among, front, later, Laid, shut, given, absent, opened, passed, member, done, unstopped}
 use Rattle.sheets.specs.Filled.{some, anyIn, filledFields, filledMembers, filled}
 use Rattle.sheets.specs.Plain.{Group, ahead, through, blockWith, blocksWith, anyLine, past, arranged, inOrder}
 use Rattle.sheets.proofs.Checks.{freeFields, freeMembers, free, allFree}
@@ -154,13 +154,14 @@ laid-misses x (absent {f = f} z l) h = laid-misses x l (and-right (not (begins (
 laid-misses x (opened {o = o} {t = t} {es = es} {ds = ds} l r) h =
     let k = and-right (not (same o x)) _ h in
     or-none (same x o) _ (line-misses x o (and-left _ _ h)) (any-lines x es ds (laid-misses x l (and-left _ _ k)) (laid-misses x r (and-right (free x false t) _ k)))
-laid-misses x (passed {o = o} {t = t} z r) h = laid-misses x r (and-right (free x false t) _ (and-right (not (same o x)) _ h))
+laid-misses x (passed {o = o} {t = t} z g r) h = laid-misses x r (and-right (free x false t) _ (and-right (not (same o x)) _ h))
 laid-misses x (member {o = o} {c = c} {ms = ms} {m = m} {es = es} {ds = ds} v i z l r) h =
     let f = among-free x c i (and-left (freeMembers x c ms) _ (and-right (not (same o x)) _ h)) in
     or-none (same x o) _ (line-misses x o (and-left _ _ h))
     (or-none (same x (m .key ++ v)) _ (key-misses x (m .key) v (f .0))
     (any-lines x es ds (laid-misses x l (sym (chain-free x (m .inside) c) ∙ f .1)) (laid-misses x r h)))
 laid-misses x (done {o = o} {c = c} {ms = ms} z l) h = laid-misses x l (and-right (freeMembers x c ms) _ (and-right (not (same o x)) _ h))
+laid-misses x (unstopped z l) h = laid-misses x l h
 
 module _ (value : ℕ → List ℕ) (x : List ℕ) where
   abbrev Misses : List Entry → Type 0
@@ -202,3 +203,4 @@ module _ (value : ℕ → List ℕ) (x : List ℕ) where
       let k = and-right (not (same o x)) _ h in
       any-lines x (filledMembers value o c ms) (filled value t) (members-misses o c ms (and-left _ _ h) (and-left _ _ k))
       (filled-misses t (and-right (freeMembers x c ms) _ k))
+  filled-misses (barred b t) h = filled-misses t h

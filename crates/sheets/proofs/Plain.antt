@@ -9,8 +9,8 @@ use borrow.Author.Tests.{eqb-true, not-true}
 use Rattle.text.specs.Bytes.{begins, same}
 use Rattle.text.proofs.Bools.{is-false, or-case, or-one, or-two, or-none, or-left, or-right}
 use Rattle.text.proofs.Laws.{and-left, and-right}
-use Rattle.sheets.specs.Trees.{Field, Member, Tree, last, line, block, group}
-use Rattle.sheets.specs.Sheets.{Entry, edge, item, lineOf, linesIn, has, Laid, shut, given, absent, opened, passed, member, done, Sheet}
+use Rattle.sheets.specs.Trees.{Field, Member, Tree, last, line, block, group, barred}
+use Rattle.sheets.specs.Sheets.{Entry, edge, item, lineOf, linesIn, has, Laid, shut, given, absent, opened, passed, member, done, unstopped, Sheet}
 use Rattle.sheets.specs.Filled.{some, valueIn, anyField, anyMember, anyIn, filledMembers, filled}
 use Rattle.sheets.specs.Plain.{Group, anyLine, arranged, inOrder}
 use Rattle.sheets.proofs.Checks.{keysOf, groupsOf, apartMembers, freeMembers, free, fieldSlots, ownSlots, memberSlots, slotsOf, disjoint, soleMembers, sole, allFree, closedMembers, heavy, tellable, full}
@@ -30,7 +30,7 @@ module _ (value : ℕ → List ℕ) where
       or-none (some (value (f .slot))) _ (no-some value (value (f .slot)) (h (f .slot) (has-front (f .slot) (fieldSlots fs))))
       (none-fields fs (λ s e. h s (or-two (eqb (f .slot) s) _ e)))
 
-  none-members : (ms : List Member) → ((s : ℕ) → has (memberSlots ms) s ≡ true → value s ≡ []) → anyMember value ms ≡ false
+  pub none-members : (ms : List Member) → ((s : ℕ) → has (memberSlots ms) s ≡ true → value s ≡ []) → anyMember value ms ≡ false
   unfolding anyMember memberSlots ownSlots has
   none-members [] h = refl
   none-members (m ∷ ms) h =
@@ -51,6 +51,7 @@ module _ (value : ℕ → List ℕ) where
   none-in (group n a o c ms t) h =
       or-none (anyMember value ms) _ (none-members ms (λ s e. h s (rw (has-append (memberSlots ms) (slotsOf t) s) (or-one (has (memberSlots ms) s) _ e))))
       (none-in t (λ s e. h s (rw (has-append (memberSlots ms) (slotsOf t) s) (or-two (has (memberSlots ms) s) _ e))))
+  none-in (barred b t) h = none-in t h
 
   -- of two parts of a sheet each has its own slots
   bare-left : (xs ys : List ℕ) (es ds : List Entry) → disjoint xs ys ≡ true → ((s : ℕ) → has (slotsHeld ds) s ≡ true → has ys s ≡ true)
@@ -106,9 +107,10 @@ module _ (value : ℕ → List ℕ) where
   has-value (given {f = f} v l) h r = or-one (some (value (f .slot))) _ (rw (r .0) at (r .1))
   has-value (absent {f = f} z l) h r = or-two (some (value (f .slot))) _ (has-value l (rw z at h) r)
   has-value (opened {t = t} {es = es} {ds = ds} l k) h r = or-two (anyIn value t) _ (has-value k h (right-right value es ds r))
-  has-value (passed {t = t} z k) h r = or-two (anyIn value t) _ (has-value k h r)
+  has-value (passed {t = t} z g k) h r = or-two (anyIn value t) _ (has-value k h r)
   has-value (member {es = es} {ds = ds} v i z l k) h r = has-value k h (right-right value es ds (r .2))
   has-value (done {ms = ms} z l) h r = or-two (anyMember value ms) _ (has-value l h r)
+  has-value (unstopped z l) h r = has-value l h r
 
   block-opened : (m : Bool) (o : List ℕ) (t u : Tree) (es ds : List Entry) → (m || anyIn value t) ≡ true
       → Missing (groupsOf t) (o ∷ []) → Missing (groupsOf u) (o ∷ [])
@@ -199,7 +201,7 @@ module _ (value : ℕ → List ℕ) where
       (missing-all (groupsOf u) _ _ (and-left C _ wc) (λ x h. laid-misses x l (and-right (not (same o x)) _ h)))
       (ordered t l (and-left (tellable t) _ wd) (and-left (sole t) _ qt) rl (bare-left (slotsOf t) (slotsOf u) es ds dj (λ s e. inside s k e) b))
       (ordered u k (and-right (tellable t) _ wd) (and-right (sole t) _ qt) (right-right value es ds r) (bare-right (slotsOf t) (slotsOf u) es ds dj (λ s e. inside s l e) b))
-  ordered (block m o t u) (passed {ds = ds} z k) w q r b =
+  ordered (block m o t u) (passed {ds = ds} z g k) w q r b =
       let B = allFree (groupsOf t) (λ x. not (same o x) && free x false u) in
       let C = allFree (groupsOf u) (λ x. not (same o x) && free x false t) in
       let wb = and-right (m || heavy t) _ w in
@@ -233,6 +235,7 @@ module _ (value : ℕ → List ℕ) where
       u (right-left value us ds r') (bare-left (memberSlots ms) (slotsOf t) us ds dj (λ s i. inside s k i) b')
       (ordered t k (and-right E _ we) (and-right (disjoint (memberSlots ms) (slotsOf t)) _ q') (right-right value us ds r')
       (bare-right (memberSlots ms) (slotsOf t) us ds dj (λ s i. units-slots s u i) b')))
+  ordered (barred x t) {es = es} (unstopped z l) w q r b = ordered-same t (barred x t) es refl refl (ordered t l w q r b)
 
 -- ---- and its own values
 

@@ -12,13 +12,14 @@ use lib.Seq.{drop-drop, getD-set-same, getD-set-other}
 use borrow.Author.Tests.{leb-true, ltb-true, ne-eqb, eqb-true, eqb-false}
 use Rattle.text.specs.Bytes.{begins, same}
 use Rattle.text.proofs.Laws.{and-left, and-right}
-use Rattle.layout.specs.Rows.{Row, field, opens, closes, many, mark, back, ends}
+use Rattle.bars.specs.Bars.{stops, barNumber}
+use Rattle.layout.specs.Rows.{Row, field, opens, closes, many, mark, back, ends, bar, nextKey}
 use Rattle.layout.specs.Layout.{wrong, moves, fitsOr9, isSeen, lacks, beneath, against, look, onward, scan, stepOf, withTaken, marked, behind, runOf, layoutOf}
 use Rattle.layout.specs.declared.Place.{Place}
 use Rattle.layout.specs.declared.Step.{Step}
 use Rattle.layout.specs.declared.Look.the-variants.{Decided, Further}
 use Rattle.stretches.specs.Stretches.{slotCount}
-use Rattle.sheets.specs.Trees.{Field, Member, Tree, last, line, block, group, chain, fieldRows, memberRows, rowsIn, tableOf}
+use Rattle.sheets.specs.Trees.{Field, Member, Tree, last, line, block, group, barred, chain, leadKey, fieldRows, memberRows, rowsIn, tableOf}
 use Rattle.sheets.specs.Sheets.{has, lacking}
 use Rattle.sheets.specs.Taking.{Spot, within, first, over, Move, no, go, fit, next, seek, laterField, tell, moveOf, following, walk, takenBy}
 use Rattle.sheets.proofs.Checks.{goodSlot, goodFields, goodMembers, goodTree}
@@ -111,6 +112,15 @@ lacks-members seen slots t c (m ∷ ms) rows g =
     let r = lacks-members seen slots t c ms rows (and-right (goodFields (m .inside)) _ (and-right (goodSlot (m .slot)) _ g)) in
     rw (t .1 (m .slot) k, lacks-fields seen (m .inside) (back c ∷ memberRows c ms rows), r)
 
+-- the text of the next row is that of the field that comes next
+lead-rows : (t : Tree) (rows : List Row) → nextKey (rowsIn t rows) ≡ leadKey t
+unfolding nextKey rowsIn leadKey
+lead-rows (last c) rows = refl
+lead-rows (line f t) rows = refl
+lead-rows (block m o t u) rows = refl
+lead-rows (group n a o c ms t) rows = refl
+lead-rows (barred b t) rows = refl
+
 -- ---- a line against the rows of a tree, at one place
 
 module _ (table : List Row) (here : Place) (seen slots l : List ℕ) (told : Told seen slots) where
@@ -168,6 +178,10 @@ module _ (table : List Row) (here : Place) (seen slots l : List ℕ) (told : Tol
       let r = skip-members c ms (rowsIn t rows) (row + 1) (suc d) p (next-row table row _ _ e) in
       let s = skip-tree t rows (r .0) d p (r .1) in
       (s .0, s .1, q ∙ (r .2 ∙ s .2))
+  skip-tree (barred b t) rows row d p e =
+      let q = over-row row d false p (bar b) (rowsIn t rows) (suc d) (rw (deep-false d)) in
+      let r = skip-tree t rows (row + 1) d p (next-row table row _ _ e) in
+      (r .0, r .1, q ∙ r .2)
 
   -- a line that fits, unless a mandatory row was passed over
   does-fit : (p : Bool) {step : Step} {move : Move} → Does table step move → Does table (fitsOr9 here p step) (fit p move)
@@ -207,6 +221,12 @@ module _ (table : List Row) (here : Place) (seen slots l : List ℕ) (told : Tol
       (does-on table (same o l && (a || lacking slots ms)) 1 false q (from (row + 1) (memberRows c ms (rowsIn t (rowsAround ts))))
       (does-fit p (takes-for refl refl refl (at-first e' e)))
       (rw (s .2) (does-block t ts (s .0) q (and-right (goodMembers ms) _ g) (s .1))))
+  does-block (barred b t) ts row p g e =
+      let e' = next-row table row _ _ e in
+      rw (lead-rows t (rowsAround ts))
+      (does-on table (stops b (leadKey t) l) 0 false p (from (row + 1) (rowsIn t (rowsAround ts)))
+      (refuses {k = barNumber b} refl (leb-true 1 (barNumber b) (and-left _ _ g)))
+      (does-block t ts (row + 1) p (and-right (leb 1 (barNumber b)) _ g) e'))
 
   -- in one of many blocks, behind its first field
   does-inside : (fs : List Field) (c : List ℕ) (rows : List Row) (t : Tree) (ts : List Tree) (row : ℕ) (u p : Bool)

@@ -3,22 +3,23 @@
 -- Assumes nothing.
 use Prim.Native.Nat.{ℕ}
 use mathlib.Core.Path.{_≡_, refl, sym, ap, subst, _∙_}
-use mathlib.Core.Bool.{Bool, true, false, _||_, not, true≢false}
+use mathlib.Core.Bool.{Bool, true, false, _&&_, _||_, not, true≢false}
 use mathlib.Core.List.{List, [], _∷_, _++_}
 use mathlib.Core.Logic.{⊎-elim}
 use lib.Dec.{eqb}
 use borrow.Author.Tests.{eqb-true, not-true}
+use Rattle.text.specs.Bytes.{begins, same}
 use Rattle.text.proofs.Laws.{and-left, and-right, and-both}
-use Rattle.sheets.specs.Trees.{Field, Member, Tree, last, line, block, group, chain}
+use Rattle.sheets.specs.Trees.{Field, Member, Tree, last, line, block, group, barred, chain}
 use Rattle.sheets.specs.Slots.{fieldSlots, ownSlots, memberSlots, slotsOf, firstSlots, mustSlots}
-use Rattle.sheets.specs.Sheets.{Entry, item, come, has, Among, front, later, Laid, given, absent, opened, passed, Sheet}
-use Rattle.sheets.specs.Filled.{some, anyField, anyIn}
-use Rattle.text.proofs.Bools.{is-false, or-case, or-one, or-two, or-none, or-left}
-use Rattle.sheets.proofs.Checks.{disjoint, distinct, soleMembers, sole, allMembers, wholeMembers, complete, solidFields, solidMembers, solid}
-use Rattle.sheets.proofs.Emits.{has-front, no-value}
+use Rattle.sheets.specs.Sheets.{Entry, item, come, has, Among, front, later, Laid, shut, given, absent, opened, passed, member, done, unstopped, Sheet}
+use Rattle.sheets.specs.Filled.{some, anyField, anyMember, anyIn, filledMembers, filled}
+use Rattle.text.proofs.Bools.{is-false, or-case, or-one, or-two, or-none, or-left, or-right, of-both}
+use Rattle.sheets.proofs.Checks.{disjoint, distinct, soleMembers, sole, heavy, allFree, groupsOf, freeMembers, free, closedMembers, apartMembers, tellable, allMembers, wholeMembers, begun, complete, solidFields, solidMembers, solid}
+use Rattle.sheets.proofs.Emits.{begun-line, has-front, no-value}
 use Rattle.sheets.proofs.Once.{has-append, apart-lists, slotsHeld, has-held, among-slots, inside, outside, Disjoint, one-or-apart, own-held, own-distinct}
 use Rattle.sheets.proofs.Order.{Units, none, unit, split, units-slots}
-use Rattle.sheets.proofs.Plain.{none-fields, none-in}
+use Rattle.sheets.proofs.Plain.{none-fields, none-members, none-in}
 use Rattle.sheets.proofs.Musts.{come-held, musts-come}
 
 right-false : (b : Bool) → (b || false) ≡ b
@@ -176,37 +177,138 @@ module _ (value : ℕ → List ℕ) where
   unfolding Tells
   among-tells es i h s e = h s (among-slots s i e)
 
-  pub settles : (t : Tree) {slots : List ℕ} {es : List Entry} → Laid slots t es → sole t ≡ true → Fresh slots (slotsOf t) → Tells (slotsOf t) es → Whole t
-  unfolding solid complete sole slotsOf has Fresh Tells slotsHeld
-  settles (last c) l q f h = (refl, refl)
-  settles (line g t) (given {es = es} v l) q f h =
+  -- ---- a block that does not stand is like none that follows
+
+  -- what stands has a value
+  HasValues : List Entry → Type 0
+  HasValues es = (s : ℕ) → has (slotsHeld es) s ≡ true → some (value s) ≡ true
+
+  values-right : (es ds : List Entry) → HasValues (es ++ ds) → HasValues ds
+  unfolding HasValues
+  values-right es ds h s e = h s (has-held es ds s ∙ or-two (has (slotsHeld es) s) _ e)
+
+  -- so a block that stands and has a mandatory field has one
+  stands-value : {slots : List ℕ} {t : Tree} {es : List Entry} → Laid slots t es → heavy t ≡ true → HasValues es → anyIn value t ≡ true
+  unfolding heavy anyIn HasValues slotsHeld has
+  stands-value shut h r = absurd (true≢false (sym h))
+  stands-value (given {f = f} {es = es} v l) h r = or-one (some (value (f .slot))) _ (r (f .slot) (has-front (f .slot) (slotsHeld es)))
+  stands-value (absent {f = f} z l) h r = or-two (some (value (f .slot))) _ (stands-value l (rw z at h) r)
+  stands-value (opened {t = t} {es = es} {ds = ds} l k) h r = or-two (anyIn value t) _ (stands-value k h (values-right es ds r))
+  stands-value (passed {t = t} z g k) h r = or-two (anyIn value t) _ (stands-value k h r)
+  stands-value (member {m = m} {es = es} {ds = ds} v i z l k) h r = stands-value k h (values-right es ds (λ s e. r s (or-two (eqb (m .slot) s) _ e)))
+  stands-value (done {ms = ms} z l) h r = or-two (anyMember value ms) _ (stands-value l h r)
+  stands-value (unstopped z l) h r = stands-value l h r
+
+  -- of many blocks with values the first begins what is filled in
+  members-begun : (o p c : List ℕ) (rest : List Entry) {m : Member} {ms : List Member} → Among m ms → some (value (m .slot)) ≡ true
+      → begun o (filledMembers value p c ms ++ rest) ≡ same o p
+  unfolding filledMembers begun
+  members-begun o p c rest front e = rw e
+  members-begun o p c rest (later {k = k} {ms = ms} i) e =
+      of-both (λ (es : List Entry). begun o (es ++ rest) ≡ same o p) (some (value (k .slot))) (λ w. refl) (λ w. members-begun o p c rest i e)
+
+  -- and without values there are none
+  members-none : (p c : List ℕ) (ms : List Member) → anyMember value ms ≡ false → filledMembers value p c ms ≡ []
+  unfolding filledMembers anyMember
+  members-none p c [] h = refl
+  members-none p c (m ∷ ms) h =
+      rw (or-left (some (value (m .slot))) _ h) (members-none p c ms (or-right (anyField value (m .inside)) _ (or-right (some (value (m .slot))) _ h)))
+
+  tells-values : (t : Tree) {slots : List ℕ} {es : List Entry} → Laid slots t es → Tells (slotsOf t) es → HasValues es
+  unfolding HasValues Tells
+  tells-values t l h s e = h s (inside s l e) ∙ e
+
+  -- what is filled in with the values of a sheet begins as the sheet does
+  begins-as : (o : List ℕ) (t : Tree) {slots : List ℕ} {es : List Entry} → Laid slots t es → tellable t ≡ true → sole t ≡ true → Tells (slotsOf t) es
+      → begun o (filled value t) ≡ begun o es
+  unfolding tellable sole slotsOf filled begun Tells slotsHeld has ownSlots
+  begins-as o (last c) shut w q h = refl
+  begins-as o (line f t) (given {es = es} v l) w q h = rw (or-two (f .must) _ (tells-first (slotsOf t) (f .slot) (f .key) v es h))
+  begins-as o (line f t) (absent {es = es} z l) w q h =
+      let k = not (has (slotsOf t) (f .slot)) in
+      let none : some (value (f .slot)) ≡ false
+      = h (f .slot) (has-front (f .slot) (slotsOf t)) ∙ outside (f .slot) l (not-true (has (slotsOf t) (f .slot)) (and-left k _ q)) in
+      rw (z, none) (begins-as o t l (and-right (allFree (groupsOf t) (λ x. not (begins (f .key) x))) _ w) (and-right k _ q) (tells-more (f .slot) (slotsOf t) es h))
+  begins-as o (block m p t u) (opened {es = es} {ds = ds} l k) w q h =
+      let dj = and-left (disjoint (slotsOf t) (slotsOf u)) _ q in
+      let own = tells-left (slotsOf t) (slotsOf u) es ds (λ s e. outside s k (apart-lists (slotsOf t) (slotsOf u) s dj e)) h in
+      rw (or-case m (heavy t) (and-left (m || heavy t) _ w) (or-one m (anyIn value t)) (λ e. or-two m (anyIn value t) (stands-value l e (tells-values t l own))))
+  begins-as o (block m p t u) (passed {ds = ds} z g k) w q h =
+      let dj = and-left (disjoint (slotsOf t) (slotsOf u)) _ q in
+      let B = allFree (groupsOf t) (λ x. not (same p x) && free x false u) in
+      let C = allFree (groupsOf u) (λ x. not (same p x) && free x false t) in
+      let none : anyIn value t ≡ false
+      = none-in value t (λ s e. empty (slotsOf t ++ slotsOf u) ds s h (rw (has-append (slotsOf t) (slotsOf u) s) (or-one (has (slotsOf t) s) _ e)) (outside s k (apart-lists (slotsOf t) (slotsOf u) s dj e))) in
+      rw (z, none)
+      (begins-as o u k (and-right (tellable t) _ (and-right C _ (and-right B _ (and-right (m || heavy t) _ w)))) (and-right (sole t) _ (and-right (disjoint (slotsOf t) (slotsOf u)) _ q))
+      (tells-right (slotsOf t) (slotsOf u) [] ds (λ s e. refl) h))
+  begins-as o (group n a p c ms t) (member {m = m} {es = es} {ds = ds} v i z l k) w q h =
+      members-begun o p c (filled value t) i
+      (h (m .slot) (rw (has-append (memberSlots ms) (slotsOf t) (m .slot)) (or-one (has (memberSlots ms) (m .slot)) _ (among-slots (m .slot) i (has-front (m .slot) (fieldSlots (m .inside))))))
+      ∙ has-front (m .slot) (slotsHeld (es ++ ds)))
+  begins-as o (group n a p c ms t) (done {es = es} z l) w q h =
+      let q' = and-right (soleMembers ms) _ q in
+      let dj = and-left (disjoint (memberSlots ms) (slotsOf t)) _ q' in
+      let none : anyMember value ms ≡ false
+      = none-members value ms (λ s e. empty (memberSlots ms ++ slotsOf t) es s h (rw (has-append (memberSlots ms) (slotsOf t) s) (or-one (has (memberSlots ms) s) _ e)) (outside s l (apart-lists (memberSlots ms) (slotsOf t) s dj e))) in
+      let A = free p false t && free c false t in
+      let D = freeMembers p c ms && (closedMembers c ms && (not (same c p) && apartMembers c ms)) in
+      let E = allFree (groupsOf t) (λ x. not (same p x) && freeMembers x c ms) in
+      rw (members-none p c ms none)
+      (begins-as o t l (and-right E _ (and-right D _ (and-right A _ w))) (and-right (disjoint (memberSlots ms) (slotsOf t)) _ q')
+      (tells-right (memberSlots ms) (slotsOf t) [] es (λ s e. refl) h))
+  begins-as o (barred b t) (unstopped z l) w q h = begins-as o t l w q h
+
+  -- ---- and so it settles
+
+  pub settles : (t : Tree) {slots : List ℕ} {es : List Entry} → Laid slots t es → tellable t ≡ true → sole t ≡ true → Fresh slots (slotsOf t) → Tells (slotsOf t) es → Whole t
+  unfolding solid complete tellable sole slotsOf has Fresh Tells slotsHeld
+  settles (last c) l w q f h = (refl, refl)
+  settles (line g t) (given {es = es} v l) w q f h =
       let k = not (has (slotsOf t) (g .slot)) in
       let n = not-true (has (slotsOf t) (g .slot)) (and-left k _ q) in
-      let r = settles t l (and-right k _ q)
+      let r = settles t l (and-right (allFree (groupsOf t) (λ x. not (begins (g .key) x))) _ w) (and-right k _ q)
       (λ s e. or-none (eqb (g .slot) s) _ (is-false (eqb (g .slot) s) (λ x. true≢false (sym e ∙ rw (← (eqb-true (g .slot) s x)) n))) (f s (or-two (eqb (g .slot) s) _ e)))
       (tells-behind (slotsOf t) (g .slot) (g .key) v es n h) in
       (and-both (or-two (not (g .must)) _ (tells-first (slotsOf t) (g .slot) (g .key) v es h)) (r .0), r .1)
-  settles (line g t) (absent {es = es} z l) q f h =
-      let r = settles t l (and-right (not (has (slotsOf t) (g .slot))) _ q) (λ s e. f s (or-two (eqb (g .slot) s) _ e)) (tells-more (g .slot) (slotsOf t) es h) in
+  settles (line g t) (absent {es = es} z l) w q f h =
+      let r = settles t l (and-right (allFree (groupsOf t) (λ x. not (begins (g .key) x))) _ w) (and-right (not (has (slotsOf t) (g .slot))) _ q) (λ s e. f s (or-two (eqb (g .slot) s) _ e)) (tells-more (g .slot) (slotsOf t) es h) in
       (and-both (or-one (not (g .must)) _ (rw z)) (r .0), r .1)
-  settles (block m o t u) {slots = slots} (opened {es = es} {ds = ds} l k) q f h =
+  settles (block m o t u) {slots = slots} (opened {es = es} {ds = ds} l k) w q f h =
+      let B = allFree (groupsOf t) (λ x. not (same o x) && free x false u) in
+      let C = allFree (groupsOf u) (λ x. not (same o x) && free x false t) in
+      let wd = and-right C _ (and-right B _ (and-right (m || heavy t) _ w)) in
       let dj = and-left (disjoint (slotsOf t) (slotsOf u)) _ q in
       let qt = and-right (disjoint (slotsOf t) (slotsOf u)) _ q in
       let ft : Fresh slots (slotsOf t) = λ s e. f s (rw (has-append (slotsOf t) (slotsOf u) s) (or-one (has (slotsOf t) s) _ e)) in
       let fu : Fresh slots (slotsOf u) = λ s e. f s (rw (has-append (slotsOf t) (slotsOf u) s) (or-two (has (slotsOf t) s) _ e)) in
       let gu : Fresh (slotsHeld es) (slotsOf u) = λ s e. is-false (has (slotsHeld es) s) (λ x. true≢false (sym e ∙ apart-lists (slotsOf t) (slotsOf u) s dj (inside s l x))) in
-      let a = settles t l (and-left (sole t) _ qt) ft (tells-left (slotsOf t) (slotsOf u) es ds (λ s e. outside s k (apart-lists (slotsOf t) (slotsOf u) s dj e)) h) in
-      let b = settles u k (and-right (sole t) _ qt) (fresh-come slots es (slotsOf u) fu gu) (tells-right (slotsOf t) (slotsOf u) es ds gu h) in
-      (and-both (or-two (not (m || anyIn value t)) _ (a .0)) (b .0), and-both (or-two (not (m || anyIn value t)) _ (a .1)) (b .1))
-  settles (block m o t u) {slots = slots} (passed {ds = ds} z k) q f h =
+      let own = tells-left (slotsOf t) (slotsOf u) es ds (λ s e. outside s k (apart-lists (slotsOf t) (slotsOf u) s dj e)) h in
+      let a = settles t l (and-left (tellable t) _ wd) (and-left (sole t) _ qt) ft own in
+      let b = settles u k (and-right (tellable t) _ wd) (and-right (sole t) _ qt) (fresh-come slots es (slotsOf u) fu gu) (tells-right (slotsOf t) (slotsOf u) es ds gu h) in
+      let on : (m || anyIn value t) ≡ true
+      = or-case m (heavy t) (and-left (m || heavy t) _ w) (or-one m (anyIn value t)) (λ e. or-two m (anyIn value t) (stands-value l e (tells-values t l own))) in (
+        and-both (or-two (not (m || anyIn value t)) _ (a .0)) (b .0),
+        and-both (or-two (not (m || anyIn value t)) _ (a .1)) (and-both (or-one (m || anyIn value t) _ on) (b .1)),
+      )
+  settles (block m o t u) {slots = slots} (passed {ds = ds} z g k) w q f h =
+      let B = allFree (groupsOf t) (λ x. not (same o x) && free x false u) in
+      let C = allFree (groupsOf u) (λ x. not (same o x) && free x false t) in
+      let wu = and-right (tellable t) _ (and-right C _ (and-right B _ (and-right (m || heavy t) _ w))) in
       let dj = and-left (disjoint (slotsOf t) (slotsOf u)) _ q in
       let qt = and-right (disjoint (slotsOf t) (slotsOf u)) _ q in
       let none : anyIn value t ≡ false
       = none-in value t (λ s e. empty (slotsOf t ++ slotsOf u) ds s h (rw (has-append (slotsOf t) (slotsOf u) s) (or-one (has (slotsOf t) s) _ e)) (outside s k (apart-lists (slotsOf t) (slotsOf u) s dj e))) in
-      let b = settles u k (and-right (sole t) _ qt) (λ s e. f s (rw (has-append (slotsOf t) (slotsOf u) s) (or-two (has (slotsOf t) s) _ e)))
-      (tells-right (slotsOf t) (slotsOf u) [] ds (λ s e. refl) h) in
-      (and-both (or-one (not (m || anyIn value t)) _ (rw (z, none))) (b .0), and-both (or-one (not (m || anyIn value t)) _ (rw (z, none))) (b .1))
-  settles (group n a o c ms t) {slots = slots} {es = es} l q f h =
+      let own = tells-right (slotsOf t) (slotsOf u) [] ds (λ s e. refl) h in
+      let b = settles u k wu (and-right (sole t) _ qt) (λ s e. f s (rw (has-append (slotsOf t) (slotsOf u) s) (or-two (has (slotsOf t) s) _ e))) own in
+      let gap : begun o (filled value u) ≡ false = begins-as o u k wu (and-right (sole t) _ qt) own ∙ begun-line o ds g in (
+        and-both (or-one (not (m || anyIn value t)) _ (rw (z, none))) (b .0),
+        and-both (or-one (not (m || anyIn value t)) _ (rw (z, none))) (and-both (or-two (m || anyIn value t) _ (ap not gap)) (b .1)),
+      )
+  settles (group n a o c ms t) {slots = slots} {es = es} l w q f h =
+      let A = free o false t && free c false t in
+      let D = freeMembers o c ms && (closedMembers c ms && (not (same c o) && apartMembers c ms)) in
+      let E = allFree (groupsOf t) (λ x. not (same o x) && freeMembers x c ms) in
       let sm = and-left (soleMembers ms) _ q in
       let q' = and-right (soleMembers ms) _ q in
       let dj = and-left (disjoint (memberSlots ms) (slotsOf t)) _ q' in
@@ -219,11 +321,12 @@ module _ (value : ℕ → List ℕ) where
       let h' : Tells (memberSlots ms ++ slotsOf t) (us ++ ds) = subst (Tells (memberSlots ms ++ slotsOf t)) e h in
       let hm = tells-left (memberSlots ms) (slotsOf t) us ds gm h' in
       let (so, wh) = all-settle ms ms (λ m i. i) (λ m i. member-settles m sm i u (among-tells us i hm)) in
-      let r = settles t k (and-right (disjoint (memberSlots ms) (slotsOf t)) _ q') (fresh-come slots us (slotsOf t) ft gt) (tells-right (memberSlots ms) (slotsOf t) us ds gt h') in
+      let r = settles t k (and-right E _ (and-right D _ (and-right A _ w))) (and-right (disjoint (memberSlots ms) (slotsOf t)) _ q') (fresh-come slots us (slotsOf t) ft gt) (tells-right (memberSlots ms) (slotsOf t) us ds gt h') in
       (and-both so (r .0), and-both (must-come us ds l e fm gm hm) (and-both wh (r .1)))
+  settles (barred b t) (unstopped z l) w q f h = settles t l w q f h
 
 -- the values of a sheet that has no empty one
-pub sheet-settles : (t : Tree) (es : List Entry) (value : ℕ → List ℕ) → Sheet t es → sole t ≡ true → ((s : ℕ) → has (slotsOf t) s ≡ true → some (value s) ≡ has (slotsHeld es) s)
+pub sheet-settles : (t : Tree) (es : List Entry) (value : ℕ → List ℕ) → Sheet t es → tellable t ≡ true → sole t ≡ true → ((s : ℕ) → has (slotsOf t) s ≡ true → some (value s) ≡ has (slotsHeld es) s)
     → (solid value t ≡ true) × (complete value t ≡ true)
 unfolding Fresh Tells has
-sheet-settles t es value l q h = settles value t l q (λ s e. refl) h
+sheet-settles t es value l w q h = settles value t l w q (λ s e. refl) h

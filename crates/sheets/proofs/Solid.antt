@@ -6,7 +6,7 @@ use mathlib.Core.Bool.{Bool, true, false, _||_, not}
 use mathlib.Core.List.{List, [], _∷_, _++_}
 use Rattle.text.proofs.Bools.{of-both}
 use Rattle.text.proofs.Laws.{and-left, and-right, and-both}
-use Rattle.sheets.specs.Trees.{Field, Member, Tree, last, line, block, group}
+use Rattle.sheets.specs.Trees.{Field, Member, Tree, last, line, block, group, barred}
 use Rattle.sheets.specs.Sheets.{Entry, edge, item}
 use Rattle.sheets.specs.Filled.{some, anyIn, filledFields, filledMembers, filled}
 use Rattle.sheets.proofs.Checks.{full, solidFields, solidMembers, solid}
@@ -58,3 +58,4 @@ module _ (value : ℕ → List ℕ) where
       (λ e. full-append (filled value t) (filled value u) (full-filled t (rw e at (and-left k _ h))) r) (λ e. r)
   full-filled (group n a o c ms t) h =
       full-append (filledMembers value o c ms) (filled value t) (full-members o c ms (and-left _ _ h)) (full-filled t (and-right (solidMembers value ms) _ h))
+  full-filled (barred b t) h = full-filled t h

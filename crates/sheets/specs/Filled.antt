@@ -5,7 +5,7 @@ use Prim.Native.Nat.{ℕ}
 use mathlib.Core.Bool.{Bool, true, false, _||_, cond}
 use mathlib.Core.List.{List, [], _∷_, _++_}
 use lib.Dec.{eqb}
-use Rattle.sheets.specs.Trees.{Field, Member, Tree, last, line, block, group}
+use Rattle.sheets.specs.Trees.{Field, Member, Tree, last, line, block, group, barred}
 use Rattle.sheets.specs.Sheets.{Entry, edge, item}
 
 unfoldable pub some : List ℕ → Bool
@@ -32,6 +32,7 @@ anyIn value (last c) = false
 anyIn value (line f t) = some (value (f .slot)) || anyIn value t
 anyIn value (block m o t u) = anyIn value t || anyIn value u
 anyIn value (group n a o c ms t) = anyMember value ms || anyIn value t
+anyIn value (barred b t) = anyIn value t
 
 unfoldable pub filledFields : (ℕ → List ℕ) → List Field → List ℕ → List Entry
 filledFields value [] c = edge c ∷ []
@@ -54,3 +55,4 @@ filled value (block m o t u) =
     let rest = filled value u in
     cond (m || anyIn value t) (edge o ∷ (filled value t ++ rest)) rest
 filled value (group n a o c ms t) = filledMembers value o c ms ++ filled value t
+filled value (barred b t) = filled value t

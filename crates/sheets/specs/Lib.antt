@@ -5,3 +5,4 @@ pub mod Sheets
 pub mod Taking
 pub mod Filled
 pub mod Plain
+pub mod Cases

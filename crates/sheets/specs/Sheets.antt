@@ -5,7 +5,9 @@ use mathlib.Core.Path.{_≡_}
 use mathlib.Core.Bool.{Bool, true, false, _||_, not}
 use mathlib.Core.List.{List, [], _∷_, _++_, map}
 use lib.Dec.{eqb}
-use Rattle.sheets.specs.Trees.{Field, Member, Tree, last, line, block, group, chain}
+use Rattle.text.specs.Bytes.{same}
+use Rattle.bars.specs.Bars.{Bar, stops}
+use Rattle.sheets.specs.Trees.{Field, Member, Tree, last, line, block, group, barred, chain, leadKey}
 
 -- a line of a sheet: the first or last line of a block; or a field's, with its slot, the text that it begins with, and its value
 pub data Entry : Type 0 where
@@ -19,6 +21,11 @@ lineOf (item s k v) = k ++ v
 -- the lines of a sheet
 unfoldable pub linesIn : List Entry → List (List ℕ)
 linesIn es = map lineOf es
+
+-- the first of them
+unfoldable pub foremost : List Entry → List ℕ
+foremost [] = []
+foremost (e ∷ es) = lineOf e
 
 -- ---- which sheets a tree lays out
 
@@ -47,9 +54,11 @@ pub data Among : Member → List Member → Type 0 where
 --   given    a field stands with any value
 --   absent   a field that is not mandatory does not stand
 --   opened   a block stands: its first line, what it holds, what is left behind it
---   passed   a block that is not mandatory does not stand
+--   passed   a block that is not mandatory does not stand, and no line follows that would open it: so of blocks that are alike and
+--            stand one behind the other none stands where the one before it does not
 --   member   one of many blocks that has not come stands: its first line, its first field, what it holds; and then as before
 --   done     of many blocks no other stands: where each must come, none lacks
+--   unstopped   the line that follows is not stopped
 pub data Laid : List ℕ → Tree → List Entry → Type 0 where
   shut : {slots : List ℕ} {c : List ℕ} → Laid slots (last c) (edge c ∷ [])
   given : {slots : List ℕ} {f : Field} {t : Tree} {es : List Entry} (v : List ℕ)
@@ -62,7 +71,7 @@ pub data Laid : List ℕ → Tree → List Entry → Type 0 where
       → Laid slots t es → Laid (come slots es) u ds
       → Laid slots (block m o t u) (edge o ∷ (es ++ ds))
   passed : {slots : List ℕ} {m : Bool} {o : List ℕ} {t u : Tree} {ds : List Entry}
-      → m ≡ false → Laid slots u ds
+      → m ≡ false → same o (foremost ds) ≡ false → Laid slots u ds
       → Laid slots (block m o t u) ds
   member : {slots : List ℕ} {n a : Bool} {o c : List ℕ} {ms : List Member} {t : Tree} {m : Member} {es ds : List Entry} (v : List ℕ)
       → Among m ms → has slots (m .slot) ≡ false
@@ -71,6 +80,9 @@ pub data Laid : List ℕ → Tree → List Entry → Type 0 where
   done : {slots : List ℕ} {n a : Bool} {o c : List ℕ} {ms : List Member} {t : Tree} {es : List Entry}
       → (n ≡ true → lacking slots ms ≡ false) → Laid slots t es
       → Laid slots (group n a o c ms t) es
+  unstopped : {slots : List ℕ} {b : Bar} {t : Tree} {es : List Entry}
+      → stops b (leadKey t) (foremost es) ≡ false → Laid slots t es
+      → Laid slots (barred b t) es
 
 -- the sheets of a table
 abbrev pub Sheet : Tree → List Entry → Type 0

@@ -2,7 +2,7 @@
 use Prim.Native.Nat.{ℕ}
 use mathlib.Core.Bool.{cond}
 use mathlib.Core.List.{List, [], _∷_, _++_}
-use Rattle.sheets.specs.Trees.{Field, Member, Tree, last, line, block, group}
+use Rattle.sheets.specs.Trees.{Field, Member, Tree, last, line, block, group, barred}
 
 -- ---- all slots
 
@@ -22,6 +22,7 @@ slotsOf (last c) = []
 slotsOf (line f t) = f .slot ∷ slotsOf t
 slotsOf (block m o t u) = slotsOf t ++ slotsOf u
 slotsOf (group n a o c ms t) = memberSlots ms ++ slotsOf t
+slotsOf (barred b t) = slotsOf t
 
 -- ---- the slots that every message has: a mandatory line's, and what is mandatory in a block that is; of blocks in any order that
 -- must each come, their first lines'
@@ -35,3 +36,4 @@ mustSlots (last c) = []
 mustSlots (line f t) = cond (f .must) (f .slot ∷ mustSlots t) (mustSlots t)
 mustSlots (block m o t u) = cond m (mustSlots t ++ mustSlots u) (mustSlots u)
 mustSlots (group n a o c ms t) = cond n (firstSlots ms ++ mustSlots t) (mustSlots t)
+mustSlots (barred b t) = mustSlots t

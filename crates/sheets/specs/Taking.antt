@@ -2,14 +2,16 @@
 -- code walks the rows of a tree (layout's specs/Layout); proofs/Rows shows that it comes to the same.
 --   8  the line fits no slot from here on in its block, or a qualifier of blocks in any order comes twice
 --   9  the line fits a later slot, but a mandatory one was passed over
+-- and the number of a block that comes once more than it may, where its tree has one.
 use Prim.Native.Nat.{ℕ, suc}
 use mathlib.Core.Bool.{Bool, false, _&&_, _||_, cond}
 use mathlib.Core.List.{List, [], _∷_}
 use lib.Dec.{eqb}
 use lib.ListN.{length, drop}
 use Rattle.text.specs.Bytes.{begins, same}
+use Rattle.bars.specs.Bars.{stops, barNumber}
 use Rattle.layout.specs.Layout.{Run, refusedAt, taken, withTaken}
-use Rattle.sheets.specs.Trees.{Field, Member, Tree, last, line, block, group, chain}
+use Rattle.sheets.specs.Trees.{Field, Member, Tree, last, line, block, group, barred, chain, leadKey}
 use Rattle.sheets.specs.Sheets.{has, lacking}
 
 -- ---- where a line stands, and what it does there
@@ -42,7 +44,7 @@ next [] = go 0 0 over []
 next (t ∷ around) = go 0 0 (within t) around
 
 -- it is held against what is left of its block, one thing after the other; a block that it does not open is passed over whole. Of many
--- blocks one opens where one has not come, or where one may when all have
+-- blocks one opens where one has not come, or where one may when all have. A bar stops it, or lets it pass as if there were none
 unfoldable pub seek : List ℕ → List ℕ → Bool → List Tree → Tree → Move
 seek slots l passed around (last c) = cond (same c l) (fit passed (next around)) (no 8)
 seek slots l passed around (line f t) =
@@ -54,6 +56,7 @@ seek slots l passed around (block m o t u) =
 seek slots l passed around (group n a o c ms t) =
     cond (same o l && (a || lacking slots ms)) (fit passed (go 0 0 (first n a o c ms t) around))
     (seek slots l (passed || (n && lacking slots ms)) around t)
+seek slots l passed around (barred b t) = cond (stops b (leadKey t) l) (no (barNumber b)) (seek slots l passed around t)
 
 -- ---- a line that stands first in one of many blocks: `c` is their last line, `g` what is left behind this one, the group again
 

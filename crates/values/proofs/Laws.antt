@@ -7,7 +7,7 @@ use mathlib.Core.Path.{_≡_, refl, ap}
 use mathlib.Core.Bool.{true}
 use mathlib.Core.List.{List, [], _∷_}
 use lib.ListN.{length, getD}
-use Rattle.text.specs.Bytes.{bytes, same}
+use Rattle.text.specs.Bytes.{bytes, begins, same}
 use Rattle.text.proofs.Laws.{and-left, and-right, and-both, same-eq}
 use Rattle.amount.specs.Amounts.{amountNumber, amountText}
 use Rattle.amount.proofs.Laws.{amount-round}
@@ -19,6 +19,7 @@ use Rattle.forms.specs.Narrative.{isNarrative}
 use Rattle.forms.proofs.Laws.{unless-good}
 use Rattle.sheets.specs.Slots.{fieldSlots, ownSlots, memberSlots, slotsOf, firstSlots, mustSlots}
 use Rattle.sheets.specs.Sheets.{has}
+use Rattle.sheets.proofs.Checks.{clash, avoids}
 use Rattle.sheets.proofs.Loose.{lone, looseFields, looseMembers, loose}
 use Rattle.format.specs.Format.{optional}
 use Rattle.format.specs.Reading.{rulesOf}
@@ -164,7 +165,7 @@ module _ (t : Trade) (form : inForm t ≡ true) where
 
   -- the values of a record in form are those of a message
   pub values-held : Held mt515 (valueOf t)
-  unfolding everySlot slotsOf memberSlots ownSlots fieldSlots header tree general pool details every loose lone looseMembers looseFields
+  unfolding everySlot slotsOf memberSlots ownSlots fieldSlots header tree general pool details every loose lone looseMembers looseFields avoids clash bytes begins same
   values-held = held-of mt515 layout refl (valueOf t) (each-slot mt515 34 refl (λ slot. Filled mt515 slot (valueOf t slot)) each-filled)
 
 -- ---- the record of a message's values

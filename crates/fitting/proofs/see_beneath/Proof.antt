@@ -89,8 +89,16 @@ returns-8 c =
     rw (row-kind _ _ 9 _ (text .before .before .before .before .pre .0) (at .match .keys8) (text .row-text .ensures)) (c .pass-over3 .ensures)
 
 returns-9 : tie.Need-returns-9
+unfolding glimpseBeneath rowOf
+returns-9 c = rw (row-at, c .match .keys9)
+
+returns-10 : tie.Need-returns-10
+unfolding glimpseBeneath rowOf
+returns-10 c = rw (row-at, c .match .keys10)
+
+returns-11 : tie.Need-returns-11
 unfolding NoneTo
-returns-9 c = rw (out-beneath _ _ _ _ _ (c .match .rest))
+returns-11 c = rw (out-beneath _ _ _ _ _ (c .match .rest))
 
 pub see-beneath-spec : {M : Type 1} → statement M
 see-beneath-spec =
@@ -117,4 +125,6 @@ see-beneath-spec =
     returns-6
     returns-7
     returns-8
-    returns-9)
+    returns-9
+    returns-10
+    returns-11)

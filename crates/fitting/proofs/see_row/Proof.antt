@@ -4,7 +4,7 @@ use mathlib.Core.Bool.{and-true, and-false}
 use native.Mathlib.Omega.{arith}
 use Rattle.layout.specs.Rows.{rowOf}
 use Rattle.layout.proofs.Rows.{NoneTo, ends-at}
-use Rattle.fitting.specs.Fitting.{glimpse}
+use Rattle.fitting.specs.Fitting.{mayStop, glimpse}
 use Rattle.fitting.proofs.Glimpses.{row-kind}
 use borrow.Author.Needs.{needs}
 use Rattle.fitting.proofs.see_row.Statement.{statement}
@@ -63,6 +63,21 @@ see-mark-requires c κs = search needs
 
 see-edge-requires-6 : tie.Need-see-edge-requires-6
 see-edge-requires-6 c κs = search needs
+
+begins-with-requires : tie.Need-begins-with-requires
+begins-with-requires c κs = search needs
+
+unless-requires : tie.Need-unless-requires
+unless-requires c κs = search needs
+
+next-key-requires : tie.Need-next-key-requires
+next-key-requires c κs = search needs
+
+strays-requires : tie.Need-strays-requires
+strays-requires c κs = search needs
+
+unless-requires-2 : tie.Need-unless-requires-2
+unless-requires-2 c κs = search needs
 
 returns : tie.Need-returns
 unfolding glimpse rowOf
@@ -135,8 +150,22 @@ returns-10 c =
     rw (row-kind _ _ 9 _ (text .before .before .before .before .before .before .pre) (at .match .keys9) (text .row-text .ensures)) (c .see-edge6 .ensures)
 
 returns-11 : tie.Need-returns-11
+unfolding glimpse rowOf mayStop
+returns-11 c =
+    let at = c .before .before in
+    let text = at .before in
+    rw (row-kind _ _ 10 _ (text .before .before .before .before .before .before .pre) (at .match .keys10) (text .row-text .ensures), ← c .before .begins-with .ensures) (c .unless .ensures)
+
+returns-12 : tie.Need-returns-12
+unfolding glimpse rowOf mayStop
+returns-12 c =
+    let at = c .before .before .before in
+    let text = at .before in
+    rw (row-kind _ _ 11 _ (text .before .before .before .before .before .before .pre) (at .match .keys11) (text .row-text .ensures), ← c .before .before .next-key .ensures, ← c .before .strays .ensures) (c .unless2 .ensures)
+
+returns-13 : tie.Need-returns-13
 unfolding glimpse NoneTo
-returns-11 c = rw (ends-at _ _ (c .match .rest))
+returns-13 c = rw (ends-at _ _ (c .match .rest))
 
 pub see-row-spec : {M : Type 1} → statement M
 see-row-spec =
@@ -160,6 +189,11 @@ see-row-spec =
     see-edge-requires-5
     see-mark-requires
     see-edge-requires-6
+    begins-with-requires
+    unless-requires
+    next-key-requires
+    strays-requires
+    unless-requires-2
     returns
     returns-2
     returns-3
@@ -170,4 +204,6 @@ see-row-spec =
     returns-8
     returns-9
     returns-10
-    returns-11)
+    returns-11
+    returns-12
+    returns-13)

@@ -1,6 +1,7 @@
 -- `layout::look_against` meets its contract. Assumes nothing.
 use Prim.Native.Nat.{_+_, _*_}
 use native.Mathlib.Omega.{arith}
+use Rattle.bars.specs.Bars.{stops, barNumber}
 use Rattle.layout.specs.Layout.{against}
 use Rattle.layout.specs.Rows.{rowOf}
 use Rattle.layout.proofs.Rows.{NoneTo, row-of, ends-at}
@@ -68,6 +69,18 @@ look-mark-requires c κs = search needs
 look-closes-requires-2 : tie.Need-look-closes-requires-2
 look-closes-requires-2 c κs = search needs
 
+look-surplus-requires : tie.Need-look-surplus-requires
+look-surplus-requires c κs = search needs
+
+add-next-key : tie.Need-add-next-key
+add-next-key c = search needs
+
+next-key-requires : tie.Need-next-key-requires
+next-key-requires c κs = search needs
+
+look-only-requires : tie.Need-look-only-requires
+look-only-requires c κs = search needs
+
 refuse-requires : tie.Need-refuse-requires
 refuse-requires c κs = search needs
 
@@ -126,8 +139,20 @@ returns-9 c =
     rw (row-of _ _ 9 _ (at .match .keys9) (at .before .key .ensures)) (c .look-closes2 .ensures)
 
 returns-10 : tie.Need-returns-10
+unfolding against rowOf stops
+returns-10 c =
+    let at = c .before in
+    rw (row-of _ _ 10 _ (at .match .keys10) (at .before .key .ensures)) (c .look-surplus .ensures)
+
+returns-11 : tie.Need-returns-11
+unfolding against rowOf stops barNumber
+returns-11 c =
+    let at = c .before .before in
+    rw (row-of _ _ 11 _ (at .match .keys11) (at .before .key .ensures), ← c .before .next-key .ensures) (c .look-only .ensures)
+
+returns-12 : tie.Need-returns-12
 unfolding against NoneTo
-returns-10 c = rw (ends-at _ _ (c .before .match .rest), c .refuse .ensures)
+returns-12 c = rw (ends-at _ _ (c .before .match .rest), c .refuse .ensures)
 
 pub look-against-spec : {M : Type 1} → statement M
 look-against-spec =
@@ -153,6 +178,10 @@ look-against-spec =
     is-seen-requires
     look-mark-requires
     look-closes-requires-2
+    look-surplus-requires
+    add-next-key
+    next-key-requires
+    look-only-requires
     refuse-requires
     returns
     returns-2
@@ -163,4 +192,6 @@ look-against-spec =
     returns-7
     returns-8
     returns-9
-    returns-10)
+    returns-10
+    returns-11
+    returns-12)

@@ -109,8 +109,16 @@ returns-10 c =
     rw (row-of _ _ 9 _ (k .before .match .keys9) (k .key3 .ensures), ← b .closes-bare .ensures, c .if1 .left)
 
 returns-11 : tie.Need-returns-11
+unfolding beneath rowOf
+returns-11 c = rw (row-at, c .match .keys10)
+
+returns-12 : tie.Need-returns-12
+unfolding beneath rowOf
+returns-12 c = rw (row-at, c .match .keys11)
+
+returns-13 : tie.Need-returns-13
 unfolding beneath NoneTo
-returns-11 c = rw (ends-at _ _ (c .match .rest))
+returns-13 c = rw (ends-at _ _ (c .match .rest))
 
 pub look-beneath-spec : {M : Type 1} → statement M
 look-beneath-spec =
@@ -143,4 +151,6 @@ look-beneath-spec =
     returns-8
     returns-9
     returns-10
-    returns-11)
+    returns-11
+    returns-12
+    returns-13)
