@@ -23,7 +23,7 @@ use Rattle.forms.specs.Forms.{Slot, codes, wordAt, isWord, unless, formNumber}
 use Rattle.forms.proofs.Laws.{unless-good, word-at}
 use Rattle.sheets.specs.Trees.{Tree}
 use Rattle.format.specs.Format.{mayLack}
-use Rattle.format.specs.Writable.{fitted, hold}
+use Rattle.format.specs.Writable.{fitted, fittedIn, hold}
 
 -- ---- statements by their numbers
 
@@ -156,6 +156,13 @@ module _ (tree : Tree) (slotOf : ℕ → Slot) where
       let e = unless-good (isCode least most v) (rw is at z) in
       let t = code-text least most v (leb-true most 20 l) e in
       (and-both (widest least most (textOf v) (t .0)) (or-two (mayLack tree slot && eqb (textOf v .len) 0) _ (eq-eqb _ _ (ap (formNumber (slotOf slot .form)) (t .1) ∙ z))), t .1)
+
+  -- so it is of a text of another class, or in another room: it is in form, and its contents are the value
+  pub fitted-held : (slot : ℕ) (form : Bool) (w v : List ℕ) → form ≡ true → w ≡ v → ((v ≡ []) × (mayLack tree slot ≡ true)) ⊎ (formNumber (slotOf slot .form) v ≡ 0)
+      → fittedIn tree slotOf slot form w ≡ true
+  unfolding fittedIn
+  fitted-held slot form w v f e (inl n) = and-both f (or-one _ _ (and-both (n .1) (eq-eqb _ _ (ap length (e ∙ n .0)))))
+  fitted-held slot form w v f e (inr z) = and-both f (or-two (mayLack tree slot && eqb (length w) 0) _ (eq-eqb _ _ (ap (formNumber (slotOf slot .form)) e ∙ z)))
 
 -- ---- code words
 

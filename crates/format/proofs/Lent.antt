@@ -19,7 +19,7 @@ use Rattle.stretches.specs.Stretches.{slotCount, between, stretchOf}
 use Rattle.amount.specs.Amounts.{isAmount, meaning, amountRead, amountNumber, shortestOf}
 use Rattle.amount.specs.declared.AmountRead.the-variants.{Good, Wrong}
 use Rattle.amount.proofs.Shortening.{lies-within, shortestIn, shortest-tidy, shortest-none}
-use Rattle.forms.specs.Forms.{Form, nothing, codes, words, amount, date, moment, narrative, poolNarrative, other, formNumber}
+use Rattle.forms.specs.Forms.{Form, nothing, codes, characters, words, amount, date, moment, narrative, poolNarrative, other, formNumber}
 use Rattle.sheets.specs.Trees.{tableOf}
 use Rattle.sheets.specs.Slots.{slotsOf}
 use Rattle.sheets.specs.Sheets.{has}
@@ -105,6 +105,7 @@ unfolding isAmountForm formNumber
 short-form amount v h e = shortest-tidy v (amount-is v e) ∙ amount-some v e
 short-form nothing v h e = absurd (true≢false (sym h))
 short-form (codes least most) v h e = absurd (true≢false (sym h))
+short-form (characters class least most) v h e = absurd (true≢false (sym h))
 short-form (words ws) v h e = absurd (true≢false (sym h))
 short-form date v h e = absurd (true≢false (sym h))
 short-form moment v h e = absurd (true≢false (sym h))

@@ -18,8 +18,8 @@ use Rattle.amount.specs.declared.AmountRead.{AmountRead}
 use Rattle.calendar.specs.Dates.{dateRead, dateNumber, momentRead, momentNumber}
 use Rattle.calendar.specs.declared.DateRead.{DateRead}
 use Rattle.calendar.specs.declared.MomentRead.{MomentRead}
-use Rattle.forms.specs.Forms.{Form, nothing, codes, words, amount, date, moment, narrative, poolNarrative, other, Slot, isWord, unless, formNumber, valueNumber}
-use Rattle.text.specs.Classes.{isCode}
+use Rattle.forms.specs.Forms.{Form, nothing, codes, characters, words, amount, date, moment, narrative, poolNarrative, other, Slot, isWord, unless, formNumber, valueNumber}
+use Rattle.text.specs.Classes.{isAll, isCode}
 use Rattle.forms.specs.Narrative.{isNarrative}
 use Rattle.forms.specs.Pool.{hasDelivery, deliveryIn, isPoolShape, poolNumber}
 use Rattle.layout.specs.Layout.{Taken, Run, refusedAt, taken}
@@ -147,6 +147,7 @@ form-few : (form : Form) (v : List ℕ) → FewOf (formNumber form v)
 unfolding formNumber
 form-few nothing v = unless-few (eqb (length v) 0)
 form-few (codes least most) v = unless-few (isCode least most v)
+form-few (characters class least most) v = unless-few (isAll class least most v)
 form-few (words ws) v = unless-few (isWord ws v)
 form-few amount v = amount-few (amountRead v)
 form-few date v = date-few (dateRead v)

@@ -18,7 +18,7 @@ use Rattle.lines.specs.Lines.{joined}
 use Rattle.lines.specs.Verdicts.{refused, pass, then, when}
 use Rattle.amount.specs.Amounts.{amountRead, amountNumber, isAmount, whole, tidy}
 use Rattle.amount.proofs.Laws.{tidy-amount, tidy-tidy}
-use Rattle.forms.specs.Forms.{Form, nothing, codes, words, amount, date, moment, narrative, poolNarrative, other, isWord, wordAt, unless, formNumber, valueNumber}
+use Rattle.forms.specs.Forms.{Form, nothing, codes, characters, words, amount, date, moment, narrative, poolNarrative, other, isWord, wordAt, unless, formNumber, valueNumber}
 use Rattle.forms.proofs.Laws.{amount-good}
 use Rattle.forms.proofs.Widths.{longest, formWidth, bounded}
 use Rattle.forms.proofs.Printing.{printedForm}
@@ -41,6 +41,7 @@ use Rattle.format.proofs.Prints.{fieldTexts, memberTexts, texts, printa
 use Rattle.format.proofs.Plainly.{map-same}
 use Rattle.format.proofs.Worded.{wordsAgree}
 use Rattle.sheets.proofs.Loose.{none-begun}
+use Rattle.format.proofs.Values.{some-behind}
 use Rattle.format.proofs.Laws.{edges, strangers, everySlot, Layout, Filled, Held, Laws}
 use Rattle.format.proofs.Lengths.{value-width, wide, bytesOf, message-most, within, within-most}
 use Rattle.format.proofs.Demands.{demands}
@@ -85,6 +86,7 @@ form-tidied : (f : Form) (v : List ℕ) → formNumber f v ≡ 0 → formNumber 
 unfolding formNumber tidied
 form-tidied nothing v h = h
 form-tidied (codes least most) v h = h
+form-tidied (characters class least most) v h = h
 form-tidied (words ws) v h = h
 form-tidied amount v h = ap (λ (x : List ℕ). amountNumber (amountRead x)) (sym (amount-some v h)) ∙ tidy-number v h
 form-tidied date v h = h
@@ -97,6 +99,7 @@ tidied-twice : (f : Form) (v : List ℕ) → formNumber f v ≡ 0 → tidied f (
 unfolding formNumber tidied
 tidied-twice nothing v h = refl
 tidied-twice (codes least most) v h = refl
+tidied-twice (characters class least most) v h = refl
 tidied-twice (words ws) v h = refl
 tidied-twice amount v h =
     ap (tidied amount) (sym (amount-some v h)) ∙ sym (amount-some (tidy v) (tidy-number v h)) ∙ tidy-tidy v (amount-good v h) ∙ amount-some v h
@@ -173,20 +176,10 @@ solid-tree : (v : ℕ → List ℕ) → solid v tree ≡ (some (v 5) && (togethe
 unfolding solid tree
 solid-tree v = rw (solid-general v, solid-settlement v, solid-status v)
 
--- what stands behind a slot that may be without a value stands where the value does
-some-behind : (value : ℕ → List ℕ) (s : ℕ) → optional specimen s ≡ true → some (behindIn specimen value s) ≡ some (value s)
-unfolding behindIn some
-some-behind value s o = rw o (go (slotOf s .fixed) (value s))
-  where
-    go : (f v : List ℕ) → some (cond (true && eqb (length v) 0) [] (f ++ v)) ≡ some v
-    go f [] = refl
-    go [] (b ∷ v) = rw (ne-eqb (length (b ∷ v)) 0 (λ q. omega arith))
-    go (c ∷ f) (b ∷ v) = rw (ne-eqb (length (b ∷ v)) 0 (λ q. omega arith))
-
 together-behind : (value : ℕ → List ℕ) (s t : ℕ) → optional specimen s ≡ true → optional specimen t ≡ true
     → together (behindIn specimen value s) (behindIn specimen value t) ≡ together (value s) (value t)
 unfolding together
-together-behind value s t o p = rw (some-behind value s o, some-behind value t p)
+together-behind value s t o p = rw (some-behind specimen value s o, some-behind specimen value t p)
 
 -- the slots of the blocks that need not stand
 lackable : (optional specimen 10 ≡ true) × (optional specimen 11 ≡ true) × (optional specimen 12 ≡ true) × (optional specimen 13 ≡ true)

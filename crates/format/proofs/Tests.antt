@@ -15,7 +15,7 @@ use Rattle.text.specs.Classes.{isC, inClass, allIn, isCode}
 use Rattle.text.specs.declared.Class.the-variants.{C}
 use Rattle.text.proofs.Laws.{and-left, and-right, and-both, same-eq, begins-append}
 use Rattle.amount.specs.Amounts.{whole, decimals, trimmed, shortened, tidy, isAmount, amountRead, amountNumber}
-use Rattle.forms.specs.Forms.{Form, nothing, codes, words, amount, date, moment, narrative, poolNarrative, other, Slot, unless, formNumber, valueNumber}
+use Rattle.forms.specs.Forms.{Form, nothing, codes, characters, words, amount, date, moment, narrative, poolNarrative, other, Slot, unless, formNumber, valueNumber}
 use Rattle.forms.proofs.Laws.{value-begins}
 use Rattle.sheets.specs.Trees.{Field, Member, Tree, last, line, block, group, barred}
 use Rattle.sheets.specs.Sheets.{has}
@@ -64,6 +64,7 @@ number-form slot v = rw (begins-append (slot .fixed) v, drop-append-seam (slot .
 unfoldable pub isCodes : Form → Bool
 isCodes nothing = false
 isCodes (codes least most) = true
+isCodes (characters class least most) = false
 isCodes (words ws) = false
 isCodes amount = false
 isCodes date = false
@@ -105,6 +106,7 @@ codes-begin (codes least most) (b ∷ z) v c n h = on (leb least (length v) && (
     on false e q = let w : ⊥ = omega arith in absurd w
 codes-begin (codes least most) [] v c n h = absurd (true≢false (sym n))
 codes-begin nothing z v c n h = absurd (true≢false (sym c))
+codes-begin (characters class least most) z v c n h = absurd (true≢false (sym c))
 codes-begin (words ws) z v c n h = absurd (true≢false (sym c))
 codes-begin amount z v c n h = absurd (true≢false (sym c))
 codes-begin date z v c n h = absurd (true≢false (sym c))
@@ -134,6 +136,7 @@ same-begins z l h = is-false (same z l) (λ e. true≢false (sym (rw (append-nil
 unfoldable pub isAmountForm : Form → Bool
 isAmountForm nothing = false
 isAmountForm (codes least most) = false
+isAmountForm (characters class least most) = false
 isAmountForm (words ws) = false
 isAmountForm amount = true
 isAmountForm date = false
@@ -147,6 +150,7 @@ pub tidied-same : (form : Form) (v : List ℕ) → isAmountForm form ≡ false �
 unfolding tidied isAmountForm
 tidied-same nothing v h = refl
 tidied-same (codes least most) v h = refl
+tidied-same (characters class least most) v h = refl
 tidied-same (words ws) v h = refl
 tidied-same amount v h = absurd (true≢false h)
 tidied-same date v h = refl
@@ -171,6 +175,7 @@ unfolding tidied some
 tidied-some form (b ∷ f) v = refl
 tidied-some nothing [] v = refl
 tidied-some (codes least most) [] v = refl
+tidied-some (characters class least most) [] v = refl
 tidied-some (words ws) [] v = refl
 tidied-some amount [] [] = refl
 tidied-some amount [] (b ∷ v) = sym (tidy-some (b ∷ v))
@@ -185,6 +190,7 @@ pub tidied-none : (form : Form) → tidied form [] ≡ []
 unfolding tidied some
 tidied-none nothing = refl
 tidied-none (codes least most) = refl
+tidied-none (characters class least most) = refl
 tidied-none (words ws) = refl
 tidied-none amount = refl
 tidied-none date = refl
@@ -280,6 +286,7 @@ row-tidied fronts slot k x h e = on (slot .form) (and-right (untouched fronts k)
         → tidyLine fronts (k ++ (slot .fixed ++ x)) ≡ k ++ (slot .fixed ++ tidied form x)
     on nothing q n = as-is q
     on (codes least most) q n = as-is q
+    on (characters class least most) q n = as-is q
     on (words ws) q n = as-is q
     on amount q n =
         ap (tidyLine fronts) (sym (append-assoc k (slot .fixed) x)) ∙ one-front fronts t x q

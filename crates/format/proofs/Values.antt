@@ -2,16 +2,19 @@
 -- together. The values of a record in form are a message's (`held-of`); the record of a message's values is in form and has them
 -- (`kept-all`), and rests on them alone (`rests-of`).
 -- Assumes nothing.
-use Prim.Native.Nat.{ℕ, _<_}
+use Prim.Native.Nat.{ℕ, _≤_, _<_}
 use mathlib.Core.Path.{_≡_, refl, sym, ap, fun-ext, _∙_}
 use mathlib.Core.Bool.{Bool, true, false, _&&_, not, cond, true≢false}
-use mathlib.Core.List.{List, [], _++_}
+use mathlib.Core.List.{List, [], _∷_, _++_}
 use mathlib.Core.Logic.{_⊎_, inl, inr}
 use native.Mathlib.Omega.{arith}
 use lib.Dec.{leb, ltb, eqb}
 use lib.ListN.{length, getD}
-use borrow.Author.Tests.{leb-true, ltb-true, eqb-true}
-use Rattle.text.specs.Texts.{contents, textOf, inForm as textForm}
+use borrow.Author.Tests.{le-leb, leb-true, ltb-true, ne-eqb, eqb-true}
+use Rattle.text.specs.Classes.{allIn, isAll}
+use Rattle.text.specs.Texts.{contents, textOf, inFormOf, inForm as textForm}
+use Rattle.text.specs.declared.Class.{Class}
+use Rattle.text.proofs.Codes.{all-most, all-class}
 use Rattle.text.specs.declared.Text.{Text}
 use Rattle.text.proofs.Bools.{or-case, or-two}
 use Rattle.text.proofs.Laws as Texts
@@ -20,7 +23,7 @@ use Rattle.amount.specs.Amounts.{amountRead, amountNumber, amountText, inForm a
 use Rattle.amount.specs.declared.Amount.{Amount}
 use Rattle.amount.specs.declared.AmountRead.{AmountRead}
 use Rattle.amount.proofs.Laws.{amount-round}
-use Rattle.forms.specs.Forms.{codes, amount, unless, formNumber, valueNumber}
+use Rattle.forms.specs.Forms.{codes, characters, amount, unless, formNumber, valueNumber}
 use Rattle.forms.proofs.Laws.{unless-good}
 use Rattle.sheets.specs.Slots.{slotsOf, mustSlots}
 use Rattle.sheets.specs.Sheets.{has}
@@ -31,11 +34,11 @@ use Rattle.typed.specs.Typed.{amountOr0}
 use Rattle.typed.proofs.Laws.{amount-held}
 use Rattle.format.specs.Format.{Format, mayLack, optional}
 use Rattle.format.specs.Writing.{behindIn}
-use Rattle.format.specs.Writable.{fitted, hold}
+use Rattle.format.specs.Writable.{fitted, fittedIn, hold}
 use Rattle.format.proofs.Tests.{every, every-at, number-form, no-length, tidied, tidied-none, amount-some}
 use Rattle.format.proofs.Laws.{everySlot, Layout, Filled, Held, Rests}
 use Rattle.format.proofs.Holds.{behind-filled, behind-some}
-use Rattle.format.proofs.BySlot.{Each, each-at, hold-all, no-contents, fitted-form, fitted-text}
+use Rattle.format.proofs.BySlot.{Each, each-at, hold-all, no-contents, fitted-form, fitted-text, fitted-held}
 
 -- ---- one value
 
@@ -51,6 +54,10 @@ fixed-line v e = sym (no-length v (unless-good _ e))
 pub amount-text : (v : List ℕ) → amountNumber (amountRead v) ≡ 0
     → (amountForm (amountOr0 (amountRead v)) ≡ true) × (amountText (amountOr0 (amountRead v)) ≡ tidied amount v)
 amount-text v e = let k = amount-held v e in (k .0, k .1 ∙ amount-some v e)
+
+-- some bytes of a class are held as a text of the class, and that is written as they were
+class-text : (class : Class) (v : List ℕ) → length v ≤ 20 → allIn class v ≡ true → (inFormOf class 0 20 (textOf v) ≡ true) × (contents (textOf v) ≡ v)
+class-text class v short e = (Texts.form-of v short class 0 20 ∙ rw (le-leb 0 (length v) (omega arith), le-leb (length v) 20 short, e), Texts.contents-of v short)
 
 -- ---- an amount that need not stand, which is held as absent or as an amount
 
@@ -95,6 +102,14 @@ module _ (F : Format) where
       (λ a. inl (no-contents x (eqb-true _ _ (and-right (mayLack (F .tree) slot) _ a)), and-left _ _ a))
       (λ z. filled slot (contents x) (eqb-true _ _ z))
 
+  -- of any class, and in any room
+  pub held-filled : (slot : ℕ) (form : Bool) (v : List ℕ) → fittedIn (F .tree) (F .slotOf) slot form v ≡ true → Filled F slot v
+  unfolding fittedIn optional
+  held-filled slot form v e =
+      or-case (mayLack (F .tree) slot && eqb (length v) 0) _ (and-right form _ e)
+      (λ a. inl (no-length v (and-right (mayLack (F .tree) slot) _ a), and-left _ _ a))
+      (λ z. filled slot v (eqb-true _ _ z))
+
   pub text-back : (slot : ℕ) (x : Text) → fitted (F .tree) (F .slotOf) slot x ≡ true → textOf (contents x) ≡ x
   text-back slot x e = Texts.text-back 0 20 x (fitted-form (F .tree) (F .slotOf) slot x e)
 
@@ -113,10 +128,20 @@ module _ (F : Format) where
     pub each-slot : (P : ℕ → Type 0) → Each (Named P) 0 n → (slot : ℕ) → has (everySlot F) slot ≡ true → P slot
     each-slot P each slot i = each-at (Named P) n each slot (below slot i) i
 
-  -- ---- values of which each fills its slot are those of a message, where the layout is loose
+  -- what stands behind a slot that may be without a value stands where the value does
+  pub some-behind : (value : ℕ → List ℕ) (s : ℕ) → optional F s ≡ true → some (behindIn F value s) ≡ some (value s)
+  unfolding behindIn some
+  some-behind value s o = rw o (go (F .slotOf s .fixed) (value s))
+    where
+      go : (f v : List ℕ) → some (cond (true && eqb (length v) 0) [] (f ++ v)) ≡ some v
+      go f [] = refl
+      go [] (b ∷ v) = rw (ne-eqb (length (b ∷ v)) 0 (λ q. omega arith))
+      go (c ∷ f) (b ∷ v) = rw (ne-eqb (length (b ∷ v)) 0 (λ q. omega arith))
 
-  module _ (L : Layout F) (l : loose (F .tree) ≡ true) (value : ℕ → List ℕ) (each : (s : ℕ) → has (everySlot F) s ≡ true → Filled F s (value s)) where
-    behind-must : (s : ℕ) → has (mustSlots (F .tree)) s ≡ true → some (behindIn F value s) ≡ true
+  -- ---- values of which each fills its slot: what must stand does; and they are those of a message, where the layout is loose
+
+  module _ (L : Layout F) (value : ℕ → List ℕ) (each : (s : ℕ) → has (everySlot F) s ≡ true → Filled F s (value s)) where
+    pub behind-must : (s : ℕ) → has (mustSlots (F .tree)) s ≡ true → some (behindIn F value s) ≡ true
     unfolding everySlot optional
     behind-must s m = go (behind-filled F L value s (each s (has-append (F .header) (slotsOf (F .tree)) s ∙ or-two (has (F .header) s) _ i)))
       where
@@ -129,16 +154,16 @@ module _ (F : Format) where
         go (inl (b, e, o)) = absurd (true≢false (sym (and-right (has (slotsOf (F .tree)) s) _ o) ∙ ap not m))
         go (inr (b, z)) = rw b (behind-some F L s _ i z)
 
-    pub held-of : Held F value
-    held-of = let t = stand-together (behindIn F value) (F .tree) behind-must l in record { each = each; whole = t .0; firm = t .1 }
+    pub held-of : loose (F .tree) ≡ true → Held F value
+    held-of l = let t = stand-together (behindIn F value) (F .tree) behind-must l in record { each = each; whole = t .0; firm = t .1 }
 
   -- ---- the values of a message, by the forms of their slots
 
   module _ (value : ℕ → List ℕ) (h : Held F value) where
-    abbrev FormOf : ℕ → Type 0
+    abbrev pub FormOf : ℕ → Type 0
     FormOf slot = ((value slot ≡ []) × (optional F slot ≡ true)) ⊎ (formNumber (F .slotOf slot .form) (value slot) ≡ 0)
 
-    form-of : (slot : ℕ) → has (everySlot F) slot ≡ true → FormOf slot
+    pub form-of : (slot : ℕ) → has (everySlot F) slot ≡ true → FormOf slot
     form-of slot i = go (h .each slot i)
       where
         go : Filled F slot (value slot) → FormOf slot
@@ -163,6 +188,22 @@ module _ (F : Format) where
         → (fitted (F .tree) (F .slotOf) slot (textOf (value slot)) ≡ true) × (contents (textOf (value slot)) ≡ value slot)
     unfolding optional
     text-kept slot least most i is l = fitted-text (F .tree) (F .slotOf) slot least most (value slot) is l (form-of slot i)
+
+    -- a text of a class
+    pub class-kept : (slot : ℕ) (class : Class) (least most : ℕ) → has (everySlot F) slot ≡ true → F .slotOf slot .form ≡ characters class least most → leb most 20 ≡ true
+        → (fittedIn (F .tree) (F .slotOf) slot (inFormOf class 0 20 (textOf (value slot))) (contents (textOf (value slot))) ≡ true) × (contents (textOf (value slot)) ≡ value slot)
+    unfolding optional formNumber allIn
+    class-kept slot class least most i is l =
+        let t = held (form-of slot i) in
+        (fitted-held (F .tree) (F .slotOf) slot (inFormOf class 0 20 (textOf (value slot))) (contents (textOf (value slot))) (value slot) (t .0) (t .1) (form-of slot i), t .1)
+      where
+        held : FormOf slot → (inFormOf class 0 20 (textOf (value slot)) ≡ true) × (contents (textOf (value slot)) ≡ value slot)
+        held (inl n) = class-text class (value slot) (rw (n .0) (omega arith)) (rw (n .0))
+        held (inr z) =
+            let e = unless-good (isAll class least most (value slot)) (rw is at z) in
+            let m = all-most class least most (value slot) e in
+            let k = leb-true most 20 l in
+            class-text class (value slot) (omega arith) (all-class class least most (value slot) e)
 
   -- ---- the record of a message's values, with a test for each slot that it is in form
 

@@ -11,7 +11,7 @@ use borrow.Author.Tests.{ltb-true}
 use Rattle.text.proofs.Bools.{or-one, or-two}
 use Rattle.text.proofs.Laws.{and-left, and-right, and-both}
 use Rattle.bars.specs.Bars.{Bar, surplus, only, goesOn}
-use Rattle.forms.specs.Forms.{Form, nothing, codes, words, amount, date, moment, narrative, poolNarrative, other, Slot, wordAt, isWord, formNumber, valueNumber}
+use Rattle.forms.specs.Forms.{Form, nothing, codes, characters, words, amount, date, moment, narrative, poolNarrative, other, Slot, wordAt, isWord, formNumber, valueNumber}
 use Rattle.forms.proofs.Laws.{unless-good, value-behind, word-at}
 use Rattle.sheets.specs.Trees.{Field, Tree, last, line, block, group, barred}
 use Rattle.sheets.specs.Sheets.{has}
@@ -31,6 +31,7 @@ allGoOn ws fixed (w ∷ vs) = goesOn ws (fixed ++ w) && allGoOn ws fixed vs
 unfoldable pub slotAgrees : List ℕ → List ℕ → Form → Bool
 slotAgrees ws fixed nothing = false
 slotAgrees ws fixed (codes least most) = false
+slotAgrees ws fixed (characters class least most) = false
 slotAgrees ws fixed (words vs) = allGoOn ws fixed vs
 slotAgrees ws fixed amount = false
 slotAgrees ws fixed date = false
@@ -70,6 +71,7 @@ form-goes-on : (ws fixed : List ℕ) (form : Form) (v : List ℕ) → slotAgrees
 unfolding slotAgrees formNumber
 form-goes-on ws fixed nothing v h z = absurd (true≢false (sym h))
 form-goes-on ws fixed (codes least most) v h z = absurd (true≢false (sym h))
+form-goes-on ws fixed (characters class least most) v h z = absurd (true≢false (sym h))
 form-goes-on ws fixed (words vs) v h z = word-goes-on ws fixed vs v h (unless-good (isWord vs v) z)
 form-goes-on ws fixed amount v h z = absurd (true≢false (sym h))
 form-goes-on ws fixed date v h z = absurd (true≢false (sym h))

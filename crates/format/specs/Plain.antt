@@ -7,7 +7,7 @@ use lib.ListN.{length, drop}
 use Rattle.text.specs.Bytes.{begins}
 use Rattle.lines.specs.Lines.{linesOf, joined}
 use Rattle.amount.specs.Amounts.{tidy}
-use Rattle.forms.specs.Forms.{Form, nothing, codes, words, amount, date, moment, narrative, poolNarrative, other}
+use Rattle.forms.specs.Forms.{Form, nothing, codes, characters, words, amount, date, moment, narrative, poolNarrative, other}
 use Rattle.sheets.specs.Filled.{some}
 use Rattle.sheets.specs.Plain.{inOrder}
 use Rattle.format.specs.Format.{Format}
@@ -16,6 +16,7 @@ use Rattle.format.specs.Format.{Format}
 unfoldable pub tidied : Form → List ℕ → List ℕ
 tidied nothing v = v
 tidied (codes least most) v = v
+tidied (characters class least most) v = v
 tidied (words ws) v = v
 tidied amount v = cond (some v) (tidy v) []
 tidied date v = v

@@ -13,10 +13,12 @@ use lib.ListN.{length, take, drop, getD, length-take, length-drop, drop-of-lengt
 use lib.Seq.{getD-drop, take-all}
 use borrow.Author.Tests.{le-leb, lt-leb, le-ltb, lt-ltb}
 use Rattle.text.specs.Bytes.{begins, same}
+use Rattle.text.specs.Classes.{isAll}
+use Rattle.text.specs.declared.Class.{Class}
 use Rattle.text.proofs.Laws.{parts-from, length-parts, rest-of}
-use Rattle.forms.specs.Forms.{Form, Slot, nothing, codes, words, amount, date, moment, narrative, poolNarrative, other, wordAt, isWord, unless, formNumber, valueNumber}
+use Rattle.forms.specs.Forms.{Form, Slot, characters, words, other, wordAt, isWord, unless, formNumber, valueNumber}
 use Rattle.forms.specs.Narrative.{services, serviceIn, periodIn}
-use Rattle.forms.specs.Slots.{wordsOf, reaches, lineIn, textIn, wordsIn, formOf, formIn, slotAt}
+use Rattle.forms.specs.Slots.{wordsOf, reaches, lineIn, textIn, wordsIn, formsIn, formOf, formIn, slotAt}
 
 -- ---- the search for a word
 
@@ -100,19 +102,28 @@ pub words-number : (t v : List ℕ) (first count k n : ℕ) → k ≡ wordAt (wo
 unfolding formNumber isWord
 words-number t v first count k n h e = rw (h, e, word-lines)
 
+-- so many bytes of a class, where the code's numbers are the slot's
+pub characters-number : (class : Class) (v : List ℕ) (least most a b : ℕ) → a ≡ least → b ≡ most
+    → unless (isAll class a b v) ≡ formNumber (characters class least most) v
+unfolding formNumber
+characters-number class v least most a b e f = rw (e, f)
+
 past-two : (k : ℕ) → (k ≡ 0 → ⊥) → (k ≡ 1 → ⊥) → (k ≡ 2 → ⊥) → 3 ≤ k
 past-two k a b c = omega arith
 
-from-three : (k : ℕ) → 3 ≤ k → (k ≡ 3 → ⊥) → (k ≡ 4 → ⊥) → (k ≡ 5 → ⊥) → (k ≡ 6 → ⊥) → (k ≡ 7 → ⊥) → 8 ≤ k
-from-three k h d e f g i = omega arith
+from-three : (k : ℕ) → 3 ≤ k → (k ≡ 3 → ⊥) → (k ≡ 4 → ⊥) → (k ≡ 5 → ⊥) → (k ≡ 6 → ⊥) → 7 ≤ k
+from-three k h d e f g = omega arith
 
-pub past-seven : (k : ℕ) → (k ≡ 0 → ⊥) → (k ≡ 1 → ⊥) → (k ≡ 2 → ⊥) → (k ≡ 3 → ⊥) → (k ≡ 4 → ⊥) → (k ≡ 5 → ⊥) → (k ≡ 6 → ⊥) → (k ≡ 7 → ⊥) → 8 ≤ k
-past-seven k a b c = from-three k (past-two k a b c)
+from-seven : (k : ℕ) → 7 ≤ k → (k ≡ 7 → ⊥) → (k ≡ 8 → ⊥) → (k ≡ 9 → ⊥) → 10 ≤ k
+from-seven k h i j l = omega arith
 
-pub no-form : (t : List ℕ) (kind least most : ℕ) (v : List ℕ) → 8 ≤ kind → 0 ≡ formNumber (formOf t kind least most) v
+pub past-nine : (k : ℕ) → (k ≡ 0 → ⊥) → (k ≡ 1 → ⊥) → (k ≡ 2 → ⊥) → (k ≡ 3 → ⊥) → (k ≡ 4 → ⊥) → (k ≡ 5 → ⊥) → (k ≡ 6 → ⊥) → (k ≡ 7 → ⊥) → (k ≡ 8 → ⊥) → (k ≡ 9 → ⊥)
+    → 10 ≤ k
+past-nine k a b c d e f g = from-seven k (from-three k (past-two k a b c) d e f g)
+
+pub no-form : (t : List ℕ) (kind least most : ℕ) (v : List ℕ) → 10 ≤ kind → 0 ≡ formNumber (formOf t kind least most) v
 unfolding formNumber formOf
-no-form t kind least most v h =
-    rw (List·getD-eq-default (nothing ∷ codes least most ∷ words (wordsIn t least most) ∷ amount ∷ date ∷ moment ∷ narrative ∷ poolNarrative ∷ []) other h)
+no-form t kind least most v h = rw (List·getD-eq-default (formsIn t least most) other h)
 
 -- ---- the lines
 

@@ -1,5 +1,5 @@
--- What callers cite: a value that gets 0 is printable, for every form whose words are, since the other forms take no byte that is
--- not from 20 to 7E hex.
+-- What callers cite: a value that gets 0 is printable, for every form whose words, or whose class, are, since the other forms take no
+-- byte that is not from 20 to 7E hex.
 -- Assumes nothing.
 use Prim.Native.Nat.{ℕ, zero, suc}
 use mathlib.Core.Path.{_≡_, refl, sym, ap, _∙_}
@@ -9,14 +9,14 @@ use native.Mathlib.Omega.{arith}
 use lib.ListN.{length, drop, getD}
 use borrow.Author.Tests.{eqb-true}
 use Rattle.text.specs.Bytes.{bytes}
-use Rattle.text.specs.Classes.{isDigit, isBetween}
-use Rattle.text.proofs.Codes.{code-all}
+use Rattle.text.specs.Classes.{isDigit, isBetween, printedClass}
+use Rattle.text.proofs.Codes.{all-class, code-all}
 use Rattle.text.proofs.Laws.{no-bytes, and-left, and-right, and-both}
-use Rattle.text.proofs.Printed.{printed, printed-append, between, digits-printed, codes-printed, allPrinted}
+use Rattle.text.proofs.Printed.{printed, printed-append, between, all-printed, digits-printed, codes-printed, allPrinted}
 use Rattle.amount.specs.Amounts.{whole, decimals, isAmount}
 use Rattle.amount.proofs.Laws.{amount-split, amount-fit}
 use Rattle.reason.proofs.Laws.{reason-printed}
-use Rattle.forms.specs.Forms.{Form, Slot, nothing, codes, words, amount, date, moment, narrative, poolNarrative, other, wordAt, isWord, formNumber, valueNumber}
+use Rattle.forms.specs.Forms.{Form, Slot, nothing, codes, characters, words, amount, date, moment, narrative, poolNarrative, other, wordAt, isWord, formNumber, valueNumber}
 use Rattle.forms.specs.Narrative.{services, serviceIn, hasPeriod, periodIn, behindPeriod, isNarrative}
 use Rattle.forms.specs.Pool.{hasCdr, hasDelivery, deliveryIn, behindDelivery, poolNumber}
 use Rattle.forms.proofs.Laws.{unless-good, value-behind, word-at, amount-good, date-good, moment-good}
@@ -27,6 +27,7 @@ use Rattle.forms.proofs.PoolNarratives.{cdrPart, deliveryPart, delivery
 unfoldable pub printedForm : Form → Bool
 printedForm nothing = true
 printedForm (codes least most) = true
+printedForm (characters class least most) = printedClass class
 printedForm (words ws) = allPrinted ws
 printedForm amount = true
 printedForm date = true
@@ -100,6 +101,7 @@ pub form-printed : (f : Form) (v : List ℕ) → printedForm f ≡ true → form
 unfolding printedForm formNumber printed
 form-printed nothing v p h = ap printed (no-bytes v (eqb-true (length v) 0 (unless-good _ h)))
 form-printed (codes least most) v p h = codes-printed v (code-all least most v (unless-good _ h))
+form-printed (characters class least most) v p h = all-printed class v p (all-class class least most v (unless-good _ h))
 form-printed (words ws) v p h = word-printed ws v p (unless-good _ h)
 form-printed amount v p h = amount-printed v (amount-good v h)
 form-printed date v p h = digits-printed v (date-good v h .0)

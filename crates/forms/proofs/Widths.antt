@@ -9,11 +9,11 @@ use native.Mathlib.Omega.{arith}
 use lib.ListN.{length, drop, getD, length-append, length-take}
 use borrow.Author.Tests.{leb-true, eqb-true}
 use Rattle.text.specs.Bytes.{bytes}
-use Rattle.text.proofs.Codes.{code-most}
+use Rattle.text.proofs.Codes.{all-most, code-most}
 use Rattle.text.proofs.Laws.{and-left}
 use Rattle.amount.specs.Amounts.{isAmount}
 use Rattle.reason.proofs.Laws.{reasonPart, reason-width}
-use Rattle.forms.specs.Forms.{Form, Slot, nothing, codes, words, amount, date, moment, narrative, poolNarrative, other, wordAt, isWord, formNumber, valueNumber}
+use Rattle.forms.specs.Forms.{Form, Slot, nothing, codes, characters, words, amount, date, moment, narrative, poolNarrative, other, wordAt, isWord, formNumber, valueNumber}
 use Rattle.forms.specs.Narrative.{serviceIn, hasPeriod, periodIn, behindPeriod, isNarrative}
 use Rattle.forms.specs.Pool.{hasCdr, hasDelivery, deliveryIn, behindDelivery, poolNumber}
 use Rattle.forms.proofs.Laws.{unless-good, value-behind, word-at, amount-good, date-good, moment-good}
@@ -27,6 +27,7 @@ longest (w ∷ ws) = max (length w) (longest ws)
 unfoldable pub formWidth : Form → ℕ
 formWidth nothing = 0
 formWidth (codes least most) = most
+formWidth (characters class least most) = most
 formWidth (words ws) = longest ws
 formWidth amount = 15
 formWidth date = 8
@@ -39,6 +40,7 @@ formWidth other = 0
 unfoldable pub bounded : Form → Bool
 bounded nothing = true
 bounded (codes least most) = true
+bounded (characters class least most) = true
 bounded (words ws) = true
 bounded amount = true
 bounded date = true
@@ -120,6 +122,7 @@ pub form-width : (f : Form) (v : List ℕ) → bounded f ≡ true → formNumber
 unfolding bounded formNumber formWidth
 form-width nothing v b h = let e = eqb-true (length v) 0 (unless-good _ h) in omega arith
 form-width (codes least most) v b h = code-most least most v (unless-good _ h)
+form-width (characters class least most) v b h = all-most class least most v (unless-good _ h)
 form-width (words ws) v b h = word-width ws v (unless-good _ h)
 form-width amount v b h = amount-width v (amount-good v h)
 form-width date v b h = let e = date-good v h .1 in omega arith

@@ -13,10 +13,12 @@ use Rattle.calendar.specs.Dates.{dateRead, dateNumber, momentRead, momentNumber
 use Rattle.forms.specs.Narrative.{isNarrative}
 use Rattle.forms.specs.Pool.{poolNumber}
 unfoldable pub use Rattle.forms.specs.Words.{wordAt, isWord}
-use Rattle.text.specs.Classes.{isCode}
+use Rattle.text.specs.Classes.{isAll, isCode}
+use Rattle.text.specs.declared.Class.{Class}
 
 --   nothing         no more than the fixed text
 --   codes           from a least to a most number of c
+--   characters      from a least to a most number of bytes of a class
 --   words           one of some words
 --   narrative       a service, and perhaps a period and a reason
 --   poolNarrative   POOL, and perhaps the word CDRY, a date and a reason
@@ -24,6 +26,7 @@ use Rattle.text.specs.Classes.{isCode}
 pub data Form : Type 0 where
   nothing : Form
   codes : ℕ → ℕ → Form
+  characters : Class → ℕ → ℕ → Form
   words : List (List ℕ) → Form
   amount : Form
   date : Form
@@ -43,6 +46,7 @@ unless b = cond b 0 10
 unfoldable pub formNumber : Form → List ℕ → ℕ
 formNumber nothing v = unless (eqb (length v) 0)
 formNumber (codes least most) v = unless (isCode least most v)
+formNumber (characters class least most) v = unless (isAll class least most v)
 formNumber (words ws) v = unless (isWord ws v)
 formNumber amount v = amountNumber (amountRead v)
 formNumber date v = dateNumber (dateRead v)

@@ -6,4 +6,5 @@ pub mod Notation
 pub mod Slots
 pub mod Cases
 pub mod PoolCases
+pub mod CharacterCases
 pub mod Samples

@@ -8,7 +8,8 @@ use mathlib.Core.List.{List, [], _∷_}
 use lib.Dec.{leb}
 use lib.ListN.{length, take, drop, getD}
 use Rattle.text.specs.Bytes.{parts}
-use Rattle.forms.specs.Forms.{Form, Slot, nothing, codes, words, amount, date, moment, narrative, poolNarrative, other}
+use Rattle.text.specs.declared.Class.the-variants.{Hyphened, Printed}
+use Rattle.forms.specs.Forms.{Form, Slot, nothing, codes, characters, words, amount, date, moment, narrative, poolNarrative, other}
 
 -- words of four letters that stand one behind the other
 unfoldable pub wordsOf : List ℕ → List (List ℕ)
@@ -34,10 +35,24 @@ wordsIn t first (suc count) = textIn t first ∷ wordsIn t (suc first) count
 
 -- ---- the slots
 
--- the forms are numbered as they stand here, from 0, and any other number is a form that takes any text
+-- the forms in the order of their numbers, from 0
+abbrev pub formsIn : List ℕ → ℕ → ℕ → List Form
+formsIn t least most =
+    nothing
+    ∷ codes least most
+    ∷ words (wordsIn t least most)
+    ∷ amount
+    ∷ date
+    ∷ moment
+    ∷ narrative
+    ∷ poolNarrative
+    ∷ characters Hyphened least most
+    ∷ characters Printed least most
+    ∷ []
+
+-- any other number is a form that takes any text
 unfoldable pub formOf : List ℕ → ℕ → ℕ → ℕ → Form
-formOf t kind least most =
-    getD (nothing ∷ codes least most ∷ words (wordsIn t least most) ∷ amount ∷ date ∷ moment ∷ narrative ∷ poolNarrative ∷ []) kind other
+formOf t kind least most = getD (formsIn t least most) kind other
 
 unfoldable pub formIn : List ℕ → ℕ → Form
 formIn t line = let s = lineIn t line in cond (reaches t line) (formOf t (getD s 0 0) (getD s 1 0) (getD s 2 0)) other

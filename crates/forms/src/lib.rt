@@ -8,11 +8,12 @@ pub mod pool;
 use amount::Amount;
 use calendar::Date;
 use calendar::Moment;
+use text::Class;
 ghost use mathlib.Core.Path.{_≡_};
 ghost use mathlib.Core.List.{[]};
 ghost use Prim.Native.Nat.{_+_, _*_};
 ghost use lib.ListN.{length, getD};
-ghost use Rattle.forms.specs.Forms.{wordAt, unless, formNumber, valueNumber};
+ghost use Rattle.forms.specs.Forms.{characters, wordAt, unless, formNumber, valueNumber};
 ghost use Rattle.forms.specs.Slots.{wordsOf, wordsIn, formOf, slotAt};
 
 // The place of a value among words of four letters that stand one behind the other; their number where it is none of them.
@@ -72,6 +73,13 @@ pub fn word_in(slots: &[u8], first: u8, count: u8, value: &[u8]) -> usize
     k
 }
 
+// From a least to a most number of bytes of a class.
+fn judge_characters(class: Class, least: u8, most: u8, value: &[u8]) -> u64
+    ensures { λ r. ⌜ r ≡ formNumber (characters class least most) (now (value .entry)) ⌝ }
+{
+    unless(text::is_all(class, value, wide(least), wide(most)))
+}
+
 // What follows the fixed text of a slot, by the slot's line.
 fn judge_form(slots: &[u8], line: &[u8], value: &[u8]) -> u64
     requires { ⌜ length (now line) ≡ 20 ⌝ }
@@ -89,6 +97,8 @@ fn judge_form(slots: &[u8], line: &[u8], value: &[u8]) -> u64
         5 => Moment::read(value).number(),
         6 => unless(narrative::is_narrative(value)),
         7 => pool::number(value),
+        8 => judge_characters(Class::Hyphened, least, most, value),
+        9 => judge_characters(Class::Printed, least, most, value),
         _ => 0,
     }
 }

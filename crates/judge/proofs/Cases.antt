@@ -19,7 +19,8 @@ use Rattle.reason.specs.Reason.{reasonText, reasonForm}
 use Rattle.typed.specs.Sides.{sideWord}
 use Rattle.values.specs.Values.{kindWord, serviceWord, periodText, narrative, values, valueOf}
 use Rattle.format.specs.Writable.{fitted, hold}
-use Rattle.values.specs.Writable.{prepForm, periodForm, tests, inForm}
+use Rattle.values.specs.Writable.{periodForm, tests, inForm}
+use Rattle.typed.specs.Prep.{prepForm}
 use Rattle.values.specs.Cases.{b}
 use Rattle.format.specs.Writing.{judgeOf}
 use Rattle.judge.specs.Cases.{trade, cases, Answered}

@@ -1,5 +1,4 @@
 // Whether the fields of a record are in form, which is number 18, by the slots of a block at a time.
-use calendar::Moment;
 use trade::Party;
 use trade::Period;
 use trade::Trade;
@@ -8,16 +7,7 @@ ghost use mathlib.Core.List.{[], _∷_};
 ghost use lib.ListN.{take, drop};
 ghost use Rattle.text.specs.Texts.{inForm as textForm};
 ghost use Rattle.format.specs.Writable.{hold};
-ghost use Rattle.values.specs.Writable.{prepForm, periodForm, tests, inForm};
-
-// Absent is date 0 and time 0, and nothing else.
-fn prep_form(prep: Moment) -> bool
-    ensures { λ r. ⌜ r ≡ prepForm prep ⌝ }
-{
-    let absent = (prep.date.0 == 0) & (prep.time.0 == 0);
-    let moment = prep.in_form();
-    absent | moment
-}
+ghost use Rattle.values.specs.Writable.{periodForm, tests, inForm};
 
 fn period_form(period: Period) -> bool
     ensures { λ r. ⌜ r ≡ periodForm period ⌝ }
@@ -42,7 +32,7 @@ fn general_form(trade: Trade) -> bool
     ensures { λ r. ⌜ r ≡ hold (take 7 (tests trade)) ⌝ }
 {
     let seme = trade.seme.in_form(1, 16);
-    let prep = prep_form(trade.prep);
+    let prep = typed::prep_form(trade.prep);
     let mast = trade.mast.in_form(0, 16);
     let prev = trade.prev.in_form(0, 16);
     let list = trade.list.in_form(0, 16);

@@ -12,20 +12,21 @@ use lib.ListN.{length, take, drop, getD, length-drop}
 use lib.Seq.{length-take-le, take-suc, take-add, take-at, drop-at, append-snoc}
 use borrow.Author.Tests.{le-leb, lt-ltb, ltb-true}
 use Rattle.text.specs.Bytes.{begins, same}
-use Rattle.text.specs.Classes.{inClass, allIn, isCode, printed}
+use Rattle.text.specs.Classes.{inClass, allIn, isCode, printed, printedClass}
 use Rattle.text.specs.declared.Class.{Class}
 use Rattle.text.specs.declared.Class.the-variants.{C, Digit}
 use Rattle.text.proofs.Laws.{and-left, and-right, and-both, all-append, same-refl, begins-is, begins-length, begins-append}
 use Rattle.text.proofs.Printed.{printed-append}
 use Rattle.amount.specs.Amounts.{isAmount, amountRead}
 use Rattle.amount.proofs.Laws.{fit-amount}
-use Rattle.forms.specs.Forms.{Form, Slot, nothing, codes, words, amount, date, moment, narrative, poolNarrative, wordAt, isWord, unless, formNumber, valueNumber}
+use Rattle.forms.specs.Forms.{Form, Slot, nothing, codes, characters, words, amount, date, moment, narrative, poolNarrative, wordAt, isWord, unless, formNumber, valueNumber}
 use Rattle.forms.specs.Narrative.{isNarrative}
 use Rattle.forms.specs.Slots.{wordsIn, formOf, slotAt}
 use Rattle.forms.proofs.Parts.{line-from, fixed-part, form-is}
 use Rattle.forms.proofs.Printing.{printedForm, form-printed}
 use Rattle.measure.specs.Measure.{cleanForm, cleanSlot, FormMeasured, Measured, slotIn, FixedMeasured}
-use Rattle.measure.specs.declared.Width.the-variants.{Is}
+use Rattle.measure.specs.declared.Width.{Width}
+use Rattle.measure.specs.declared.Width.the-variants.{Is, Not}
 
 -- one byte more at the front
 pub front-more : (k : Class) (s : List ℕ) (i : ℕ) → i < length s → allIn k (take i s) ≡ true → inClass k (getD s i 0) ≡ true → allIn k (take (i + 1) s) ≡ true
@@ -44,10 +45,16 @@ pub nothing-told : (s : List ℕ) → FormMeasured nothing s (Is 0)
 unfolding formNumber unless printedForm
 nothing-told s = told nothing s 0 (λ c. refl) (omega arith) refl
 
-pub code-told : (least most : ℕ) (s : List ℕ) (n : ℕ) → n ≤ length s → allIn C (take n s) ≡ true → least ≤ n → n ≤ most → FormMeasured (codes least most) s (Is n)
-unfolding formNumber unless isCode printedForm
-code-told least most s n h e l m =
-    told (codes least most) s n (λ c. refl) h (rw (length-take-le n s h, le-leb least n l, le-leb n most m, e))
+pub characters-told : (k : Class) (least most : ℕ) (s : List ℕ) (n : ℕ) → n ≤ length s → allIn k (take n s) ≡ true → least ≤ n → n ≤ most
+    → FormMeasured (characters k least most) s (Is n)
+unfolding formNumber unless cleanForm printedForm
+characters-told k least most s n h e l m =
+    told (characters k least most) s n (λ c. c) h (rw (length-take-le n s h, le-leb least n l, le-leb n most m, e))
+
+pub code-told : (least most : ℕ) (s : List ℕ) (w : Width) → FormMeasured (characters C least most) s w → FormMeasured (codes least most) s w
+unfolding FormMeasured formNumber cleanForm printedClass isCode
+code-told least most s (Is n) m = m
+code-told least most s Not m = m
 
 -- a word that stands among some words is one of them
 held : (k : ℕ) (ws us : List (List ℕ)) (w : List ℕ) → drop k ws ≡ w ∷ us → isWord ws w ≡ true

@@ -6,16 +6,17 @@ use mathlib.Core.Bool.{Bool, true, _&&_}
 use mathlib.Core.List.{List}
 use lib.ListN.{length, take, drop, getD}
 use Rattle.text.specs.Bytes.{begins}
-use Rattle.text.specs.Classes.{printed, allPrinted}
-use Rattle.forms.specs.Forms.{Form, Slot, nothing, codes, words, amount, date, moment, narrative, poolNarrative, other, formNumber, valueNumber}
+use Rattle.text.specs.Classes.{printed, printedClass, allPrinted}
+use Rattle.forms.specs.Forms.{Form, Slot, nothing, codes, characters, words, amount, date, moment, narrative, poolNarrative, other, formNumber, valueNumber}
 use Rattle.forms.specs.Slots.{formOf}
 use Rattle.measure.specs.declared.Width.{Width}
 use Rattle.measure.specs.declared.Width.the-variants.{Is, Not}
 
--- the words of a form, and with them the fixed text of a slot, are of 20 to 7E hex
+-- the words of a form or its class, and with them the fixed text of a slot, are of 20 to 7E hex
 unfoldable pub cleanForm : Form → Bool
 cleanForm nothing = true
 cleanForm (codes least most) = true
+cleanForm (characters class least most) = printedClass class
 cleanForm (words ws) = allPrinted ws
 cleanForm amount = true
 cleanForm date = true

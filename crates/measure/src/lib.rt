@@ -9,7 +9,7 @@ ghost use mathlib.Core.Bool.{true};
 ghost use Prim.Native.Nat.{_+_, _≤_};
 ghost use lib.ListN.{length, take, getD};
 ghost use Rattle.text.specs.Classes.{allIn};
-ghost use Rattle.forms.specs.Forms.{codes, words, amount, date, moment, narrative, poolNarrative};
+ghost use Rattle.forms.specs.Forms.{characters, words, amount, date, moment, narrative, poolNarrative};
 ghost use Rattle.forms.specs.Slots.{wordsIn, formOf, slotAt};
 ghost use Rattle.measure.specs.Measure.{FixedMeasured, FormMeasured, Measured};
 
@@ -33,11 +33,11 @@ fn front(class: Class, text: &[u8]) -> usize
     i
 }
 
-// A code is all the c at the front of a text, from a least to a most number of them.
-fn code_width(text: &[u8], least: u8, most: u8) -> Width
-    ensures { λ r. ⌜ FormMeasured (codes least most) (now (text .entry)) r ⌝ }
+// All the bytes of a class at the front of a text, from a least to a most number of them; a code is so many c.
+fn characters_width(class: Class, least: u8, most: u8, text: &[u8]) -> Width
+    ensures { λ r. ⌜ FormMeasured (characters class least most) (now (text .entry)) r ⌝ }
 {
-    let n = front(Class::C, text);
+    let n = front(class, text);
     if n < least as usize {
         return Width::Not;
     }
@@ -170,13 +170,15 @@ fn form_width(slots: &[u8], line: &[u8], text: &[u8]) -> Width
     let most = line[2];
     match kind {
         0 => Width::Is(0),
-        1 => code_width(text, least, most),
+        1 => characters_width(Class::C, least, most, text),
         2 => word_width(slots, least, most, text),
         3 => amount_width(text),
         4 => date_width(text),
         5 => moment_width(text),
         6 => narrative_width(text),
         7 => pool_width(text),
+        8 => characters_width(Class::Hyphened, least, most, text),
+        9 => characters_width(Class::Printed, least, most, text),
         _ => Width::Not,
     }
 }
@@ -207,7 +209,7 @@ fn plain_width(slots: &[u8], line: &[u8], text: &[u8]) -> Width
     let most = line[2];
     match kind {
         0 => Width::Is(0),
-        1 => code_width(text, least, most),
+        1 => characters_width(Class::C, least, most, text),
         _ => Width::Not,
     }
 }

@@ -9,7 +9,8 @@ use Rattle.reason.specs.Reason.{reasonText, reasonForm}
 use Rattle.typed.specs.Sides.{sideWord}
 use Rattle.values.specs.Values.{kindWord, serviceWord, periodText, narrative, values, valueOf}
 use Rattle.format.specs.Writable.{fitted, hold}
-use Rattle.values.specs.Writable.{prepForm, periodForm, tests, inForm}
+use Rattle.values.specs.Writable.{periodForm, tests, inForm}
+use Rattle.typed.specs.Prep.{prepForm}
 use Rattle.table.specs.Table.{slots, header, slotOf}
 use Rattle.table.specs.Tree.{general, pool, details, tree}
 use Rattle.sheets.specs.Slots.{fieldSlots, ownSlots, memberSlots, slotsOf, firstSlots, mustSlots}

@@ -163,7 +163,7 @@ module _ (t : PoolTrade) (form : inForm t ≡ true) where
   -- the values of a record in form are those of a message
   pub values-held : Held pool (valueOf t)
   unfolding everySlot slotsOf memberSlots ownSlots fieldSlots header tree general security details every loose lone looseMembers looseFields avoids clash bytes begins same
-  values-held = held-of pool layout refl (valueOf t) (each-slot pool 26 refl (λ slot. Filled pool slot (valueOf t slot)) each-filled)
+  values-held = held-of pool layout (valueOf t) (each-slot pool 26 refl (λ slot. Filled pool slot (valueOf t slot)) each-filled) refl
 
   -- where the rules of the record are kept its narrative has at most 31 bytes, so that number 20 can not come up: no kind may have CDRY and
   -- DKRS both

@@ -1,4 +1,5 @@
--- What callers cite of codes, which are so many c: what they are, and that a code and the text that holds it tell each other.
+-- What callers cite of values of so many bytes of a class, of which codes are so many c: what they are, and that a code and the text
+-- that holds it tell each other.
 -- Assumes nothing.
 use Prim.Native.Nat.{ℕ, _≤_}
 use mathlib.Core.Path.{_≡_, _∙_}
@@ -8,19 +9,27 @@ use native.Mathlib.Omega.{arith}
 use lib.Dec.{leb}
 use lib.ListN.{length, length-take}
 use borrow.Author.Tests.{leb-true, le-leb}
-use Rattle.text.specs.Classes.{allIn, isCode}
+use Rattle.text.specs.Classes.{allIn, isAll, isCode}
 use Rattle.text.specs.Texts.{contents, textOf, inForm}
+use Rattle.text.specs.declared.Class.{Class}
 use Rattle.text.specs.declared.Class.the-variants.{C}
 use Rattle.text.specs.declared.Text.{Text}
 use Rattle.text.proofs.Laws.{and-left, and-right, contents-of, in-form-of, in-form-facts, length-contents}
 
+module _ (k : Class) (least most : ℕ) (v : List ℕ) (e : isAll k least most v ≡ true) where
+  pub all-most : length v ≤ most
+  all-most = leb-true (length v) most (and-left _ _ (and-right (leb least (length v)) _ e))
+
+  pub all-class : allIn k v ≡ true
+  all-class = and-right (leb (length v) most) _ (and-right (leb least (length v)) _ e)
+
 pub code-most : (least most : ℕ) (v : List ℕ) → isCode least most v ≡ true → length v ≤ most
 unfolding isCode
-code-most least most v e = leb-true (length v) most (and-left _ _ (and-right (leb least (length v)) _ e))
+code-most = all-most C
 
 pub code-all : (least most : ℕ) (v : List ℕ) → isCode least most v ≡ true → allIn C v ≡ true
 unfolding isCode
-code-all least most v e = and-right (leb (length v) most) _ (and-right (leb least (length v)) _ e)
+code-all = all-class C
 
 -- a code is held as a text in form, and that text is written as the code
 pub code-text : (least most : ℕ) (v : List ℕ) → most ≤ 20 → isCode least most v ≡ true → (inForm least most (textOf v) ≡ true) × (contents (textOf v) ≡ v)

@@ -15,7 +15,7 @@ use borrow.Author.Tests.{le-leb, leb-true, eq-eqb, ne-eqb, eqb-true}
 use Rattle.text.specs.Bytes.{begins, same, before, parts}
 use Rattle.text.specs.Classes.{inClass, allIn}
 use Rattle.text.specs.Copy.{over, fits, placed, after}
-use Rattle.text.specs.Texts.{contents, textOf, inForm}
+use Rattle.text.specs.Texts.{padded, fills, contents, textOf, inFormOf, inForm}
 use Rattle.text.specs.declared.Class.{Class}
 use Rattle.text.specs.declared.Class.the-variants.{C, Zero}
 use Rattle.text.specs.declared.Text.{Text}
@@ -235,7 +235,7 @@ pub placed-all : (buf s : List ℕ) → length s ≡ length buf → placed buf 0
 unfolding placed fits over
 placed-all buf s e = rw (zero-add, le-leb (length s) (length buf) (omega arith), e, drop-length buf) (append-nil s)
 
--- ---- texts and their contents
+-- ---- a part in a room of so many bytes, with zero bytes behind it
 
 -- zero bytes are told by their number
 zeros : (s : List ℕ) → allIn Zero s ≡ true → s ≡ replicate {A = ℕ} (length s) 0
@@ -248,8 +248,45 @@ unfolding allIn inClass
 all-zeros zero = refl
 all-zeros (suc n) = all-zeros n
 
+module _ (room : ℕ) (s : List ℕ) (short : length s ≤ room) where
+  pub length-padded : length (padded room s) ≡ room
+  length-padded = simp (length-append, length-replicate) (omega arith)
+
+  -- it fills the room exactly when it has the width and is good
+  pub fills-of : (good : Bool) (least most : ℕ) → fills good room least most (padded room s) (length s) ≡ (leb least (length s) && (leb (length s) most && good))
+  fills-of good least most =
+      rw (
+        eq-eqb _ _ length-padded,
+        le-leb (length s) room short,
+        drop-at s (replicate {A = ℕ} (room - length s) 0) (length s) refl,
+        all-zeros (room - length s),
+        and-true good,
+      )
+
+module _ (good : Bool) (room least most : ℕ) (bytes : List ℕ) (len : ℕ) (full : fills good room least most bytes len ≡ true) where
+  pub fills-facts : (length bytes ≡ room) × (len ≤ room) × (least ≤ len) × (len ≤ most) × (good ≡ true) × (allIn Zero (drop len bytes) ≡ true)
+  fills-facts =
+      let r1 = and-right (eqb (length bytes) room) _ full in
+      let r2 = and-right (leb len room) _ r1 in
+      let r3 = and-right (leb least len) _ r2 in
+      let r4 = and-right (leb len most) _ r3 in
+      (eqb-true _ _ (and-left _ _ full), leb-true _ _ (and-left _ _ r1), leb-true _ _ (and-left _ _ r2), leb-true _ _ (and-left _ _ r3), and-left _ _ r4, and-right good _ r4)
+
+  pub length-front : length (take len bytes) ≡ len
+  length-front = let f = fills-facts in length-take-le _ _ (omega arith)
+
+  -- what fills the room is its front in that room
+  pub padded-back : padded room (take len bytes) ≡ bytes
+  padded-back =
+      let f = fills-facts in
+      let zs : drop len bytes ≡ replicate {A = ℕ} (room - len) 0 =
+      zeros _ (f .5) ∙ ap (λ (n : ℕ). replicate {A = ℕ} n 0) (length-drop len bytes ∙ ap (λ (n : ℕ). n - len) (f .0))
+      in rw (length-front, ← zs, take-append-drop len bytes)
+
+-- ---- texts and their contents
+
 module _ (s : List ℕ) (short : length s ≤ 20) where
-  pub text-is : textOf s ≡ record { bytes = s ++ replicate {A = ℕ} (20 - length s) 0; len = length s }
+  pub text-is : textOf s ≡ record { bytes = padded 20 s; len = length s }
   unfolding textOf
   text-is = rw (le-leb (length s) 20 short)
 
@@ -257,41 +294,43 @@ module _ (s : List ℕ) (short : length s ≤ 20) where
   unfolding contents
   contents-of = rw text-is (take-at s _ (length s) refl)
 
-  -- a part is a text in form exactly when it has the width and is of c
+  -- a part is a text in form exactly when it has the width and is of the class
+  pub form-of : (class : Class) (least most : ℕ) → inFormOf class least most (textOf s) ≡ (leb least (length s) && (leb (length s) most && allIn class s))
+  unfolding inFormOf
+  form-of class least most = rw (contents-of, text-is) (fills-of 20 s short (allIn class s) least most)
+
   pub in-form-of : (least most : ℕ) → inForm least most (textOf s) ≡ (leb least (length s) && (leb (length s) most && allIn C s))
-  unfolding inForm contents
-  in-form-of least most =
-      let n : length (s ++ replicate {A = ℕ} (20 - length s) 0) ≡ 20 = simp (length-append, length-replicate) (omega arith) in
-      rw (
-        text-is,
-        eq-eqb _ _ n,
-        le-leb (length s) 20 short,
-        take-at s (replicate {A = ℕ} (20 - length s) 0) (length s) refl,
-        drop-at s (replicate {A = ℕ} (20 - length s) 0) (length s) refl,
-        all-zeros (20 - length s),
-        and-true (allIn C s),
-      )
+  unfolding inForm inFormOf
+  in-form-of least most = form-of C least most
 
-module _ (least most : ℕ) (t : Text) (good : inForm least most t ≡ true) where
-  pub in-form-facts : (length (t .bytes) ≡ 20) × (t .len ≤ 20) × (least ≤ t .len) × (t .len ≤ most) × (allIn C (contents t) ≡ true) × (allIn Zero (drop (t .len) (t .bytes)) ≡ true)
-  unfolding inForm
-  in-form-facts =
-      let r1 = and-right (eqb (length (t .bytes)) 20) _ good in
-      let r2 = and-right (leb (t .len) 20) _ r1 in
-      let r3 = and-right (leb least (t .len)) _ r2 in
-      let r4 = and-right (leb (t .len) most) _ r3 in
-      (eqb-true _ _ (and-left _ _ good), leb-true _ _ (and-left _ _ r1), leb-true _ _ (and-left _ _ r2), leb-true _ _ (and-left _ _ r3), and-left _ _ r4, and-right (allIn C (contents t)) _ r4)
+module _ (class : Class) (least most : ℕ) (t : Text) (good : inFormOf class least most t ≡ true) where
+  pub form-facts : (length (t .bytes) ≡ 20) × (t .len ≤ 20) × (least ≤ t .len) × (t .len ≤ most) × (allIn class (contents t) ≡ true) × (allIn Zero (drop (t .len) (t .bytes)) ≡ true)
+  unfolding inFormOf
+  form-facts = fills-facts (allIn class (contents t)) 20 least most (t .bytes) (t .len) good
 
-  pub length-contents : length (contents t) ≡ t .len
-  unfolding contents
-  length-contents = let f = in-form-facts in length-take-le _ _ (omega arith)
+  pub form-length : length (contents t) ≡ t .len
+  unfolding inFormOf contents
+  form-length = length-front (allIn class (contents t)) 20 least most (t .bytes) (t .len) good
 
   -- a text in form is the text of its contents
+  pub form-back : textOf (contents t) ≡ t
+  unfolding inFormOf contents
+  form-back =
+      let f = form-facts in
+      let n = form-length in
+      text-is (contents t) (omega arith) ∙ rw (padded-back (allIn class (contents t)) 20 least most (t .bytes) (t .len) good, n)
+
+-- of c
+module _ (least most : ℕ) (t : Text) (good : inForm least most t ≡ true) where
+  form-of-c : inFormOf C least most t ≡ true
+  unfolding inForm inFormOf
+  form-of-c = good
+
+  pub in-form-facts : (length (t .bytes) ≡ 20) × (t .len ≤ 20) × (least ≤ t .len) × (t .len ≤ most) × (allIn C (contents t) ≡ true) × (allIn Zero (drop (t .len) (t .bytes)) ≡ true)
+  in-form-facts = form-facts C least most t form-of-c
+
+  pub length-contents : length (contents t) ≡ t .len
+  length-contents = form-length C least most t form-of-c
+
   pub text-back : textOf (contents t) ≡ t
-  unfolding contents
-  text-back =
-      let f = in-form-facts in
-      let lc = length-contents in
-      let zs : drop (t .len) (t .bytes) ≡ replicate {A = ℕ} (20 - t .len) 0 =
-      zeros _ (f .5) ∙ ap (λ (n : ℕ). replicate {A = ℕ} n 0) (length-drop (t .len) (t .bytes) ∙ ap (λ (n : ℕ). n - t .len) (f .0))
-      in text-is (contents t) (omega arith) ∙ rw (lc, ← zs, take-append-drop (t .len) (t .bytes))
+  text-back = form-back C least most t form-of-c

@@ -4,20 +4,21 @@
 use Prim.Native.Nat.{ℕ, suc, _+_, _-_, _≤_, _<_}
 use mathlib.Core.Path.{_≡_, refl, sym, ap, _∙_}
 use mathlib.Core.Bool.{Bool, true, false, _&&_, and-false, and-true, and-assoc}
-use mathlib.Core.List.{List, [], _∷_, _++_, append-assoc}
+use mathlib.Core.List.{List, [], _∷_, append-assoc}
 use native.Mathlib.Numerals.{add-one}
 use native.Mathlib.Nat.{add-zero, zero-add, not-suc-le-zero, le-of-suc-le-suc}
 use native.Mathlib.Omega.{arith}
 use lib.Dec.{eqb}
-use lib.ListN.{length, drop, getD, set, replicate, drop-of-length-le}
+use lib.ListN.{length, take, drop, getD, set, replicate, length-replicate, drop-of-length-le}
 use lib.Seq.{drop-cons, paste, paste-suc, take-length, take-all}
 use borrow.Author.Tests.{le-leb, lt-leb, eq-eqb, ne-eqb}
-use Rattle.text.proofs.Laws.{drop-replicate}
+use Rattle.text.proofs.Laws.{drop-replicate, rest-of}
 use Rattle.text.specs.Bytes.{begins, same, before}
 use Rattle.text.specs.Classes.{inClass, allIn}
 use Rattle.text.specs.Copy.{over, fits, placed, after}
-use Rattle.text.specs.Texts.{blank, contents, textOf}
+use Rattle.text.specs.Texts.{padded, fills, blank, contents, textOf}
 use Rattle.text.specs.declared.Class.{Class}
+use Rattle.text.specs.declared.Class.the-variants.{Zero}
 use Rattle.text.specs.declared.Text.{Text}
 
 -- ---- every byte of a class: what was seen up to a place, and what is left
@@ -100,19 +101,43 @@ module _ (buf : List ℕ) (at : ℕ) (s : List ℕ) where
 
 -- ---- texts
 
--- a part that is put at the start of twenty zero bytes
+-- a part that is put at the start of so many zero bytes
+pub padded-of : (room : ℕ) (s bytes : List ℕ) (len : ℕ) → length s ≤ room → len ≡ after (replicate {A = ℕ} room 0) 0 s → bytes ≡ placed (replicate {A = ℕ} room 0) 0 s
+    → (bytes ≡ padded room s) × (len ≡ length s)
+unfolding after placed fits over
+padded-of room s bytes len h e f =
+    let g : 0 + length s ≤ length (replicate {A = ℕ} room 0) = rw (length-replicate {A = ℕ} room 0) (omega arith) in
+    let r = le-leb (0 + length s) (length (replicate {A = ℕ} room 0)) g in
+    (f ∙ rw (r, zero-add, drop-replicate (length s) room 0), e ∙ rw (r, zero-add))
+
 pub text-of : (s bytes : List ℕ) (len : ℕ) → length s ≤ 20 → len ≡ after (replicate {A = ℕ} 20 0) 0 s → bytes ≡ placed (replicate {A = ℕ} 20 0) 0 s
     → record { bytes = bytes; len = len } ≡ textOf s
-unfolding textOf after placed fits over
-text-of s bytes len h e f =
-    let g : 0 + length s ≤ 20 = omega arith in
-    let n : len ≡ length s = e ∙ rw (le-leb (0 + length s) 20 g, zero-add)
-    in let b : bytes ≡ s ++ replicate {A = ℕ} (20 - length s) 0 = f ∙ rw (le-leb (0 + length s) 20 g, zero-add, drop-replicate (length s) 20 0)
-    in rw (le-leb (length s) 20 h, n, b)
+unfolding textOf
+text-of s bytes len h e f = let p = padded-of 20 s bytes len h e f in rw (le-leb (length s) 20 h, p .0, p .1)
 
 pub no-text : (s : List ℕ) → 20 < length s → blank ≡ textOf s
 unfolding textOf
 no-text s h = rw (lt-leb (length s) 20 h)
+
+-- bytes fill their room where no test of it fails, tried one after the other
+module _ (good : Bool) (room least most : ℕ) (bytes : List ℕ) (len : ℕ) (n : length bytes ≡ room) where
+  pub past-room : room < len → false ≡ fills good room least most bytes len
+  past-room h = rw (eq-eqb _ _ n, lt-leb _ _ h)
+
+  module _ (l : len ≤ room) where
+    pub too-few : len < least → false ≡ fills good room least most bytes len
+    too-few h = rw (eq-eqb _ _ n, le-leb _ _ l, lt-leb _ _ h)
+
+    module _ (f : least ≤ len) where
+      pub too-many : most < len → false ≡ fills good room least most bytes len
+      too-many h = rw (eq-eqb _ _ n, le-leb _ _ l, le-leb _ _ f, lt-leb _ _ h)
+
+      module _ (m : len ≤ most) where
+        pub not-good : good ≡ false → false ≡ fills good room least most bytes len
+        not-good h = rw (eq-eqb _ _ n, le-leb _ _ l, le-leb _ _ f, le-leb _ _ m, h)
+
+        pub zeros-left : good ≡ true → (b : Bool) → b ≡ allIn Zero (take (room - len) (drop len bytes)) → b ≡ fills good room least most bytes len
+        zeros-left h b e = rw (eq-eqb _ _ n, le-leb _ _ l, le-leb _ _ f, le-leb _ _ m, h) (e ∙ ap (allIn Zero) (rest-of len room bytes n))
 
 -- where the length is past the bytes, the contents are all of them
 pub contents-all : (t : Text) → length (t .bytes) ≤ t .len → contents t ≡ t .bytes

@@ -6,8 +6,23 @@ use mathlib.Core.List.{List, _++_}
 use lib.Dec.{leb, eqb}
 use lib.ListN.{length, take, drop, replicate}
 use Rattle.text.specs.Classes.{allIn}
+use Rattle.text.specs.declared.Class.{Class}
 use Rattle.text.specs.declared.Class.the-variants.{C, Zero}
 use Rattle.text.specs.declared.Text.{Text}
+
+-- ---- in a room of so many bytes
+
+-- a part, and zero bytes behind it
+abbrev pub padded : ℕ → List ℕ → List ℕ
+padded room s = s ++ replicate {A = ℕ} (room - length s) 0
+
+-- the first `len` bytes are from a least to a most number, and the others are zero; `good` is what else is asked of those bytes. That there
+-- are as many as the room has is their type's, and is said here so that bytes of which this holds tell all of themselves
+abbrev pub fills : Bool → ℕ → ℕ → ℕ → List ℕ → ℕ → Bool
+fills good room least most bytes len =
+    eqb (length bytes) room && (leb len room && (leb least len && (leb len most && (good && allIn Zero (drop len bytes)))))
+
+-- ---- a text, which has room for twenty
 
 -- no text: length 0 and twenty zero bytes
 abbrev pub blank : Text
@@ -19,11 +34,12 @@ contents t = take (t .len) (t .bytes)
 
 -- a part of a message as a text; what is longer than any text of a record gives no text, and is never cut
 unfoldable pub textOf : List ℕ → Text
-textOf s = cond (leb (length s) 20) (record { bytes = s ++ replicate {A = ℕ} (20 - length s) 0; len = length s }) blank
+textOf s = cond (leb (length s) 20) (record { bytes = padded 20 s; len = length s }) blank
 
--- a text of a record is in form for a slot that takes from `least` to `most` c; that it has twenty bytes is its type's, and
--- is said here so that a text in form tells all of itself
+-- a text of a record is in form for a slot that takes from `least` to `most` bytes of a class
+unfoldable pub inFormOf : Class → ℕ → ℕ → Text → Bool
+inFormOf class least most t = fills (allIn class (contents t)) 20 least most (t .bytes) (t .len)
+
+-- of c
 unfoldable pub inForm : ℕ → ℕ → Text → Bool
-inForm least most t =
-    eqb (length (t .bytes)) 20
-    && (leb (t .len) 20 && (leb least (t .len) && (leb (t .len) most && (allIn C (contents t) && allIn Zero (drop (t .len) (t .bytes))))))
+inForm least most t = fills (allIn C (contents t)) 20 least most (t .bytes) (t .len)

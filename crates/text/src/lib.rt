@@ -6,15 +6,17 @@ ghost use mathlib.Core.Path.{_≡_};
 ghost use Prim.Native.Nat.{_+_, _%_, _<_, _≤_};
 ghost use lib.ListN.{length, take, drop};
 ghost use Rattle.text.specs.Bytes.{begins, same, before, little};
-ghost use Rattle.text.specs.Classes.{isBetween, inClass, allIn, isCode};
-ghost use Rattle.text.specs.Texts.{contents, textOf, inForm};
+ghost use Rattle.text.specs.Classes.{isBetween, isC, isHyphened, inClass, allIn, isAll, isCode};
+ghost use Rattle.text.specs.Texts.{contents, textOf, inFormOf, inForm};
 ghost use Rattle.text.specs.Copy.{placed, after};
 
-// The classes that document 01's values are made of, and the zero byte behind a text.
+// The classes that the values of documents 01 and 02 are made of, and the zero byte behind a text.
 pub enum Class {
     C,
     Digit,
     Upper,
+    Hyphened,
+    Printed,
     Zero,
 }
 
@@ -30,19 +32,31 @@ fn between(byte: u8, low: u8, high: u8) -> bool
     low <= byte && byte <= high
 }
 
+fn is_c(byte: u8) -> bool
+    ensures { λ r. ⌜ r ≡ isC byte ⌝ }
+{
+    if between(byte, b'A', b'Z') {
+        true
+    } else {
+        between(byte, b'0', b'9')
+    }
+}
+
+fn is_hyphened(byte: u8) -> bool
+    ensures { λ r. ⌜ r ≡ isHyphened byte ⌝ }
+{
+    if is_c(byte) { true } else { byte == b'-' }
+}
+
 pub fn in_class(class: Class, byte: u8) -> bool
     ensures { λ r. ⌜ r ≡ inClass class byte ⌝ }
 {
     match class {
-        Class::C => {
-            if between(byte, b'A', b'Z') {
-                true
-            } else {
-                between(byte, b'0', b'9')
-            }
-        }
+        Class::C => is_c(byte),
         Class::Digit => between(byte, b'0', b'9'),
         Class::Upper => between(byte, b'A', b'Z'),
+        Class::Hyphened => is_hyphened(byte),
+        Class::Printed => between(byte, b' ', b'~'),
         Class::Zero => byte == 0,
     }
 }
@@ -73,9 +87,9 @@ pub fn all_in(class: Class, part: &[u8]) -> bool
     good
 }
 
-// From a least to a most number of c.
-pub fn is_code(part: &[u8], least: usize, most: usize) -> bool
-    ensures { λ r. ⌜ r ≡ isCode least most (now (part .entry)) ⌝ }
+// From a least to a most number of bytes of a class.
+pub fn is_all(class: Class, part: &[u8], least: usize, most: usize) -> bool
+    ensures { λ r. ⌜ r ≡ isAll class least most (now (part .entry)) ⌝ }
 {
     if part.len() < least {
         return false;
@@ -83,7 +97,14 @@ pub fn is_code(part: &[u8], least: usize, most: usize) -> bool
     if most < part.len() {
         return false;
     }
-    all_in(Class::C, part)
+    all_in(class, part)
+}
+
+// From a least to a most number of c.
+pub fn is_code(part: &[u8], least: usize, most: usize) -> bool
+    ensures { λ r. ⌜ r ≡ isCode least most (now (part .entry)) ⌝ }
+{
+    is_all(Class::C, part, least, most)
 }
 
 fn wide(byte: u8) -> u64
@@ -246,9 +267,9 @@ impl Text {
         Text { bytes, len }
     }
 
-    // A text of a record is in form for a slot that takes from `least` to `most` c.
-    pub fn in_form(self, least: usize, most: usize) -> bool
-        ensures { λ r. ⌜ r ≡ inForm least most self ⌝ }
+    // A text of a record is in form for a slot that takes from `least` to `most` bytes of a class.
+    pub fn in_form_of(self, class: Class, least: usize, most: usize) -> bool
+        ensures { λ r. ⌜ r ≡ inFormOf class least most self ⌝ }
     {
         let bytes = self.bytes;
         let len = self.len;
@@ -261,9 +282,16 @@ impl Text {
         if most < len {
             return false;
         }
-        if !all_in(Class::C, &bytes[..len]) {
+        if !all_in(class, &bytes[..len]) {
             return false;
         }
         all_in(Class::Zero, &bytes[len..])
+    }
+
+    // So it is for one that takes c.
+    pub fn in_form(self, least: usize, most: usize) -> bool
+        ensures { λ r. ⌜ r ≡ inForm least most self ⌝ }
+    {
+        self.in_form_of(Class::C, least, most)
     }
 }

@@ -1,4 +1,5 @@
 pub mod Laws
 pub mod Widths
 pub mod SideWords
+pub mod Preps
 pub mod PaymentTexts

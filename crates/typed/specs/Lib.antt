@@ -1,3 +1,4 @@
 pub mod Typed
 pub mod Sides
+pub mod Prep
 pub mod Payments

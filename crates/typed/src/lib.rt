@@ -1,7 +1,7 @@
 // The value of a slot as what a record holds: a text, a date, a moment, an amount or a payment, from where it stands in a message;
 // and the side of a trade.
 //
-// Nothing here knows a message type. What is right stands in specs/Typed, specs/Sides and specs/Payments.
+// Nothing here knows a message type. What is right stands in specs/Typed, specs/Sides, specs/Payments and specs/Prep.
 pub mod payments;
 pub mod sides;
 
@@ -21,6 +21,7 @@ ghost use Rattle.calendar.specs.Dates.{dateRead, momentRead};
 ghost use Rattle.stretches.specs.Stretches.{stretchOf};
 ghost use Rattle.typed.specs.Typed.{amountOr0, dateOr0, momentOr0};
 ghost use Rattle.typed.specs.Payments.{paymentIn};
+ghost use Rattle.typed.specs.Prep.{prepForm};
 
 // Whether the sender buys or sells.
 pub enum Side {
@@ -108,4 +109,13 @@ pub fn payment_at<'a, 'b>(
         return Payment::Absent;
     }
     Payment::Of(Money::of(amount_at(message, starts, ends, slot)))
+}
+
+// A moment of a record that need not be there is in form: absent is date 0 and time 0, and nothing else.
+pub fn prep_form(prep: Moment) -> bool
+    ensures { λ r. ⌜ r ≡ prepForm prep ⌝ }
+{
+    let absent = (prep.date.0 == 0) & (prep.time.0 == 0);
+    let moment = prep.in_form();
+    absent | moment
 }

@@ -21,7 +21,8 @@ use Rattle.format.specs.Writable.{hold}
 use Rattle.table.specs.Table.{slotOf}
 use Rattle.table.specs.Tree.{tree}
 use Rattle.reason.specs.Reason.{reasonForm}
-use Rattle.values.specs.Writable.{prepForm, periodForm, tests, inForm}
+use Rattle.values.specs.Writable.{periodForm, tests, inForm}
+use Rattle.typed.specs.Prep.{prepForm}
 use Rattle.format.proofs.BySlot.{fitted-form}
 use Rattle.values.proofs.Laws.{test}
 use Rattle.judge.proofs.Laws.{judge-zero}

@@ -27,6 +27,7 @@ use Rattle.format.proofs.BySlot.{Each, _⨾_, hold-at, word-back}
 use Rattle.format.proofs.Tests.{every, tidied}
 use Rattle.format.proofs.Laws.{everySlot, Filled, Held, Rests}
 use Rattle.format.proofs.Values.{good-unless, fixed-line, amount-text, filled, may-filled, text-filled, text-back, Named, none, each-slot, held-of, may-form, must-form, text-kept, Kept, kept, no-slot, kept-all, atSlots, rests-of}
+use Rattle.typed.proofs.Preps.{prep-back, prep-number, prep-held}
 use Rattle.typed.proofs.Laws.{date-held, moment-held}
 use Rattle.typed.specs.Sides.{sideWord}
 use Rattle.typed.proofs.SideWords.{side-back, side-word, side-held}
@@ -41,7 +42,6 @@ use Rattle.values.specs.Values.{kindWord, narrative, values, valueOf}
 use Rattle.values.specs.Writable.{periodForm, tests, inForm}
 use Rattle.values.specs.Mt515.{mt515}
 use Rattle.values.proofs.Laid.{layout}
-use Rattle.values.proofs.Prep.{prep-back, prep-number, prep-held}
 use Rattle.values.proofs.Narratives.{narrative-short, told-parts, told-back, told-form}
 
 -- ---- code words
@@ -166,7 +166,7 @@ module _ (t : Trade) (form : inForm t ≡ true) where
   -- the values of a record in form are those of a message
   pub values-held : Held mt515 (valueOf t)
   unfolding everySlot slotsOf memberSlots ownSlots fieldSlots header tree general pool details every loose lone looseMembers looseFields avoids clash bytes begins same
-  values-held = held-of mt515 layout refl (valueOf t) (each-slot mt515 34 refl (λ slot. Filled mt515 slot (valueOf t slot)) each-filled)
+  values-held = held-of mt515 layout (valueOf t) (each-slot mt515 34 refl (λ slot. Filled mt515 slot (valueOf t slot)) each-filled) refl
 
 -- ---- the record of a message's values
 

@@ -1,4 +1,3 @@
-pub mod Prep
 pub mod Narratives
 pub mod Laws
 pub mod Widths

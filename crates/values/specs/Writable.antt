@@ -1,13 +1,13 @@
 -- Document 01, number 18: a record field is outside its slot's values or the forms of the record.
 use Prim.Native.Nat.{ℕ}
-use mathlib.Core.Bool.{Bool, true, _&&_, _||_}
+use mathlib.Core.Bool.{Bool, true, _&&_}
 use mathlib.Core.List.{List, [], _∷_}
-use lib.Dec.{leb, eqb}
+use lib.Dec.{leb}
 use Rattle.text.specs.declared.Text.{Text}
 use Rattle.amount.specs.Amounts.{inForm as amountForm}
 use Rattle.calendar.specs.Dates.{isDate, isMoment}
-use Rattle.calendar.specs.declared.Moment.{Moment}
 use Rattle.reason.specs.Reason.{reasonForm}
+use Rattle.typed.specs.Prep.{prepForm}
 use Rattle.format.specs.Writable as Any
 use Rattle.format.specs.Writable.{hold}
 use Rattle.trade.specs.Records.{passwordSlot, senderSlot}
@@ -15,10 +15,6 @@ use Rattle.trade.specs.declared.Period.{Period}
 use Rattle.trade.specs.declared.Trade.{Trade}
 use Rattle.table.specs.Table.{slotOf}
 use Rattle.table.specs.Tree.{tree}
-
--- PREP is absent, which is date 0 and time 0 and has no other form, or a date and time
-unfoldable pub prepForm : Moment → Bool
-prepForm m = (eqb (m .date .0) 0 && eqb (m .time .0) 0) || isMoment m
 
 -- GUPP is absent or one digit
 unfoldable pub periodForm : Period → Bool

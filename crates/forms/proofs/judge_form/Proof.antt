@@ -4,7 +4,7 @@ use Rattle.amount.specs.Amounts.{amountNumber}
 use Rattle.calendar.specs.Dates.{dateNumber, momentNumber}
 use Rattle.forms.specs.Forms.{unless, formNumber}
 use Rattle.forms.specs.Slots.{formOf}
-use Rattle.forms.proofs.Parts.{words-number, past-seven, no-form}
+use Rattle.forms.proofs.Parts.{words-number, past-nine, no-form}
 use borrow.Author.Needs.{needs}
 use Rattle.forms.proofs.judge_form.Statement.{statement}
 use Rattle.forms.proofs.judge_form.Tie as tie
@@ -75,6 +75,12 @@ unless-requires-4 c κs = search needs
 number-requires-4 : tie.Need-number-requires-4
 number-requires-4 c κs = search needs
 
+judge-characters-requires : tie.Need-judge-characters-requires
+judge-characters-requires c κs = search needs
+
+judge-characters-requires-2 : tie.Need-judge-characters-requires-2
+judge-characters-requires-2 c κs = search needs
+
 returns : tie.Need-returns
 unfolding formOf formNumber
 returns c = rw (c .before .match .keys1) (c .unless .ensures)
@@ -112,10 +118,19 @@ unfolding formOf formNumber
 returns-8 c = rw (c .before .match .keys8) (c .number4 .ensures)
 
 returns-9 : tie.Need-returns-9
+unfolding formOf
+returns-9 c = rw (c .before .match .keys9) (c .judge-characters .ensures)
+
+returns-10 : tie.Need-returns-10
+unfolding formOf
+returns-10 c = rw (c .before .match .keys10) (c .judge-characters2 .ensures)
+
+returns-11 : tie.Need-returns-11
 unfolding formOf formNumber
-returns-9 c =
+returns-11 c =
     let r = c .match .rest in
-    no-form _ _ _ _ _ (past-seven _ (r .0 .0 .0 .0 .0 .0 .0 .1) (r .0 .0 .0 .0 .0 .0 .1) (r .0 .0 .0 .0 .0 .1) (r .0 .0 .0 .0 .1) (r .0 .0 .0 .1) (r .0 .0 .1) (r .0 .1) (r .1))
+    let s = r .0 .0 .0 .0 .0 in
+    no-form _ _ _ _ _ (past-nine _ (s .0 .0 .0 .0 .1) (s .0 .0 .0 .1) (s .0 .0 .1) (s .0 .1) (s .1) (r .0 .0 .0 .0 .1) (r .0 .0 .0 .1) (r .0 .0 .1) (r .0 .1) (r .1))
 
 pub judge-form-spec : {M : Type 1} → statement M
 judge-form-spec =
@@ -141,6 +156,8 @@ judge-form-spec =
     is-narrative-requires
     unless-requires-4
     number-requires-4
+    judge-characters-requires
+    judge-characters-requires-2
     returns
     returns-2
     returns-3
@@ -149,4 +166,6 @@ judge-form-spec =
     returns-6
     returns-7
     returns-8
-    returns-9)
+    returns-9
+    returns-10
+    returns-11)

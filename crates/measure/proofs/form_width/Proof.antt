@@ -1,7 +1,7 @@
 -- `measure::form_width` meets its contract: each arm is a form by its number. Assumes nothing.
 use Rattle.forms.specs.Slots.{formOf}
 use Rattle.measure.specs.Measure.{FormMeasured}
-use Rattle.measure.proofs.Laws.{nothing-told}
+use Rattle.measure.proofs.Laws.{nothing-told, code-told}
 use borrow.Author.Needs.{needs}
 use Rattle.measure.proofs.form_width.Statement.{statement}
 use Rattle.measure.proofs.form_width.Tie as tie
@@ -15,8 +15,8 @@ shared-slice-read-least c = search needs
 shared-slice-read-most : tie.Need-shared-slice-read-most
 shared-slice-read-most c = search needs
 
-code-width-requires : tie.Need-code-width-requires
-code-width-requires c κs = search needs
+characters-width-requires : tie.Need-characters-width-requires
+characters-width-requires c κs = search needs
 
 word-width-requires : tie.Need-word-width-requires
 word-width-requires c κs = search needs
@@ -36,13 +36,19 @@ narrative-width-requires c κs = search needs
 pool-width-requires : tie.Need-pool-width-requires
 pool-width-requires c κs = search needs
 
+characters-width-requires-2 : tie.Need-characters-width-requires-2
+characters-width-requires-2 c κs = search needs
+
+characters-width-requires-3 : tie.Need-characters-width-requires-3
+characters-width-requires-3 c κs = search needs
+
 returns : tie.Need-returns
 unfolding formOf
 returns c = rw (c .match .keys1) (nothing-told _)
 
 returns-2 : tie.Need-returns-2
 unfolding formOf
-returns-2 c = rw (c .before .match .keys2) (c .code-width .ensures)
+returns-2 c = rw (c .before .match .keys2) (code-told _ _ _ _ (c .characters-width .ensures))
 
 returns-3 : tie.Need-returns-3
 unfolding formOf
@@ -69,8 +75,16 @@ unfolding formOf
 returns-8 c = rw (c .before .match .keys8) (c .pool-width .ensures)
 
 returns-9 : tie.Need-returns-9
+unfolding formOf
+returns-9 c = rw (c .before .match .keys9) (c .characters-width2 .ensures)
+
+returns-10 : tie.Need-returns-10
+unfolding formOf
+returns-10 c = rw (c .before .match .keys10) (c .characters-width3 .ensures)
+
+returns-11 : tie.Need-returns-11
 unfolding FormMeasured
-returns-9 c = tt
+returns-11 c = tt
 
 pub form-width-spec : {M : Type 1} → statement M
 form-width-spec =
@@ -79,13 +93,15 @@ form-width-spec =
     shared-slice-read-kind
     shared-slice-read-least
     shared-slice-read-most
-    code-width-requires
+    characters-width-requires
     word-width-requires
     amount-width-requires
     date-width-requires
     moment-width-requires
     narrative-width-requires
     pool-width-requires
+    characters-width-requires-2
+    characters-width-requires-3
     returns
     returns-2
     returns-3
@@ -94,4 +110,6 @@ form-width-spec =
     returns-6
     returns-7
     returns-8
-    returns-9)
+    returns-9
+    returns-10
+    returns-11)

@@ -1,7 +1,7 @@
 -- `measure::plain_width` meets its contract: each arm is a form by its number. Assumes nothing.
 use Rattle.forms.specs.Slots.{formOf}
 use Rattle.measure.specs.Measure.{FormMeasured}
-use Rattle.measure.proofs.Laws.{nothing-told}
+use Rattle.measure.proofs.Laws.{nothing-told, code-told}
 use borrow.Author.Needs.{needs}
 use Rattle.measure.proofs.plain_width.Statement.{statement}
 use Rattle.measure.proofs.plain_width.Tie as tie
@@ -15,8 +15,8 @@ shared-slice-read-least c = search needs
 shared-slice-read-most : tie.Need-shared-slice-read-most
 shared-slice-read-most c = search needs
 
-code-width-requires : tie.Need-code-width-requires
-code-width-requires c κs = search needs
+characters-width-requires : tie.Need-characters-width-requires
+characters-width-requires c κs = search needs
 
 returns : tie.Need-returns
 unfolding formOf
@@ -24,7 +24,7 @@ returns c = rw (c .match .keys1) (nothing-told _)
 
 returns-2 : tie.Need-returns-2
 unfolding formOf
-returns-2 c = rw (c .before .match .keys2) (c .code-width .ensures)
+returns-2 c = rw (c .before .match .keys2) (code-told _ _ _ _ (c .characters-width .ensures))
 
 returns-3 : tie.Need-returns-3
 unfolding FormMeasured
@@ -37,7 +37,7 @@ plain-width-spec =
     shared-slice-read-kind
     shared-slice-read-least
     shared-slice-read-most
-    code-width-requires
+    characters-width-requires
     returns
     returns-2
     returns-3)

@@ -1,8 +1,8 @@
--- `judge::form::prep_form` meets its contract. Assumes nothing.
-use Rattle.values.specs.Writable.{prepForm}
+-- `typed::prep_form` meets its contract. Assumes nothing.
+use Rattle.typed.specs.Prep.{prepForm}
 use borrow.Author.Needs.{needs}
-use Rattle.judge.proofs.form.prep_form.Statement.{statement}
-use Rattle.judge.proofs.form.prep_form.Tie as tie
+use Rattle.typed.proofs.prep_form.Statement.{statement}
+use Rattle.typed.proofs.prep_form.Tie as tie
 
 in-form-requires : tie.Need-in-form-requires
 in-form-requires c κs = search needs

@@ -12,9 +12,9 @@ use Rattle.digits.specs.Numerals.{wideNumber}
 use Rattle.calendar.specs.Dates.{year, isDate, isTime, isMoment, momentFrom, momentRead, momentNumber, momentText}
 use Rattle.calendar.specs.declared.Moment.{Moment}
 use Rattle.calendar.proofs.Laws.{moment-round}
 use Rattle.typed.specs.Typed.{momentOr0}
 use Rattle.typed.proofs.Laws.{moment-held}
-use Rattle.values.specs.Writable.{prepForm}
+use Rattle.typed.specs.Prep.{prepForm}
 
 pub no-moment : (m : Moment) → isMoment m ≡ false → momentText m ≡ []
 unfolding momentText
