@@ -1,0 +1,3 @@
+pub mod Values
+pub mod Writable
+pub mod Mt509
