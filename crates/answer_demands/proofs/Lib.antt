@@ -1,0 +1,4 @@
+pub mod Widest
+pub mod Lengths
+pub mod Laws
+pub mod Demands

@@ -1,0 +1,2 @@
+pub mod Widest
+pub mod Demands

@@ -1,0 +1,1 @@
+// The second and the third demand of the MT509: theorems, and no code.
