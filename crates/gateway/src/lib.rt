@@ -2,6 +2,7 @@
 // them.
 //
 // What is right stands in the specs of the functions that the entries call; an entry only hands their answer out.
+mod answers;
 mod netting;
 
 use pieces::Turn;

@@ -1,0 +1,4 @@
+pub mod Steps
+pub mod Finding
+pub mod Values
+pub mod Cases
