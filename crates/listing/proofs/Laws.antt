@@ -21,7 +21,7 @@ use Rattle.values.specs.Values.{kindWord}
 use Rattle.values.proofs.Widths.{kind-four}
 use Rattle.mt515.specs.declared.Reading.{Reading}
 use Rattle.fill.proofs.Runs.{Put, Run, two, measured, in-front, length-run, whole}
-use Rattle.listing.specs.Rows.{spaced, decimal, shown, told, untold, fieldsOf, printedRow}
+use Rattle.listing.specs.Rows.{spaced, decimal, shown, shownText, told, untold, fieldsOf, printedRow}
 use Rattle.listing.specs.Composed.{fieldsIn, partsOf}
 use Rattle.listing.specs.declared.Row.{Row}
 
@@ -41,7 +41,7 @@ module _ (n : ℕ) (all : List ℕ) (put : all ≡ placed (replicate {A = ℕ} 2
         let l = length-take 19 all in
         omega arith
 
-    pub number-is : (t : Text) → t ≡ textOf (take (20 - k) (drop k all)) → contents t ≡ decimal n
+    pub number-is : (t : Text) → t ≡ textOf (take (20 - k) (drop k all)) → (t ≡ textOf (decimal n)) × (contents t ≡ decimal n)
     unfolding decimal
     number-is t e =
         let l = all-long in
@@ -49,7 +49,8 @@ module _ (n : ℕ) (all : List ℕ) (put : all ≡ placed (replicate {A = ℕ} 2
         let short : length (drop k all) ≤ 20 = rw length-drop (omega arith) in
         let one : length all - 1 ≡ 19 = omega arith in
         let m : trimmed all ≡ drop k all = trimmed-drop all ∙ ap (λ (i : ℕ). drop (noughts (take i all)) all) one ∙ ap (λ (i : ℕ). drop i all) (sym lead) in
-        ap contents e ∙ ap (λ (s : List ℕ). contents (textOf s)) d ∙ contents-of (drop k all) short ∙ sym m ∙ ap trimmed all-is
+        let is : drop k all ≡ trimmed (digits 20 n) = sym m ∙ ap trimmed all-is in
+        (e ∙ ap textOf (d ∙ is), ap contents e ∙ ap (λ (s : List ℕ). contents (textOf s)) d ∙ contents-of (drop k all) short ∙ is)
 
 -- ---- what is absent
 
@@ -70,6 +71,14 @@ shown-some t l n =
     go : (s : List ℕ) → 0 < length s → s ≡ shown s
     go [] h = absurd (omega arith)
     go (b ∷ s) h = refl
+
+pub text-none : (t : Text) → t .len ≡ 0 → textOf (bytes "-") ≡ shownText t
+unfolding shownText
+text-none t e = rw (eq-eqb (t .len) 0 e)
+
+pub text-some : (t : Text) → (t .len ≡ 0 → ⊥) → t ≡ shownText t
+unfolding shownText
+text-some t n = rw (ne-eqb (t .len) 0 n)
 
 -- ---- the kind
 

@@ -4,6 +4,7 @@ use Prim.Native.Nat.{ℕ}
 use mathlib.Core.List.{List, [], _∷_, _++_}
 use Rattle.text.specs.Bytes.{bytes}
 use Rattle.text.specs.Texts.{contents}
+use Rattle.listing.specs.Rows.{parted}
 use Rattle.listing.specs.declared.Row.{Row}
 
 -- the fields as they are held
@@ -11,10 +12,6 @@ unfoldable pub fieldsIn : Row → List (List ℕ)
 fieldsIn row =
     contents (row .message) ∷ contents (row .number) ∷ contents (row .line)
     ∷ contents (row .kind) ∷ contents (row .mast) ∷ contents (row .buyer) ∷ contents (row .seller) ∷ []
-
--- a field and the blank behind it
-abbrev pub parted : List ℕ → List (List ℕ)
-parted f = f ∷ bytes " " ∷ []
 
 -- all of them, one behind the other
 unfoldable pub partsOf : Row → List (List ℕ)

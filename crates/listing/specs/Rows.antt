@@ -5,7 +5,8 @@ use mathlib.Core.Bool.{cond}
 use mathlib.Core.List.{List, [], _∷_, _++_}
 use lib.Dec.{eqb}
 use Rattle.text.specs.Bytes.{bytes}
-use Rattle.text.specs.Texts.{contents}
+use Rattle.text.specs.Texts.{contents, textOf}
+use Rattle.text.specs.declared.Text.{Text}
 use Rattle.digits.specs.Numerals.{digits}
 use Rattle.amount.specs.Amounts.{trimmed}
 use Rattle.trade.specs.declared.Trade.{Trade}
@@ -18,6 +19,10 @@ spaced [] = bytes "\n"
 spaced (f ∷ []) = f ++ bytes "\n"
 spaced (f ∷ g ∷ fs) = f ++ (bytes " " ++ spaced (g ∷ fs))
 
+-- a field as it is put into a row before another: itself and the blank behind it
+abbrev pub parted : List ℕ → List (List ℕ)
+parted f = f ∷ bytes " " ∷ []
+
 unfoldable pub heading : List ℕ
 heading = spaced (bytes "MSG" ∷ bytes "CODE" ∷ bytes "LINE" ∷ bytes "KIND" ∷ bytes "MAST" ∷ bytes "BUYR" ∷ bytes "SELL" ∷ [])
 
@@ -29,6 +34,10 @@ decimal n = trimmed (digits 20 n)
 unfoldable pub shown : List ℕ → List ℕ
 shown [] = bytes "-"
 shown (b ∷ s) = b ∷ s
+
+-- and of a text
+unfoldable pub shownText : Text → Text
+shownText t = cond (eqb (t .len) 0) (textOf (bytes "-")) t
 
 -- kind, MAST, buyer and seller of a record
 unfoldable pub told : Trade → List (List ℕ)

@@ -10,11 +10,11 @@ ghost use mathlib.Core.List.{_++_};
 ghost use Prim.Native.Nat.{_≤_};
 ghost use lib.ListN.{length};
 ghost use Rattle.text.specs.Copy.{placed, after};
-ghost use Rattle.text.specs.Texts.{contents};
+ghost use Rattle.text.specs.Texts.{contents, textOf};
 ghost use Rattle.values.specs.Values.{kindWord};
 ghost use Rattle.fill.specs.Runs.{overRun, behindRun};
-ghost use Rattle.listing.specs.Rows.{spaced, heading, decimal, shown, fieldsOf, printedRow};
-ghost use Rattle.listing.specs.Composed.{fieldsIn, parted, partsOf};
+ghost use Rattle.listing.specs.Rows.{spaced, parted, heading, decimal, shown, shownText, fieldsOf, printedRow};
+ghost use Rattle.listing.specs.Composed.{fieldsIn, partsOf};
 
 // The seven fields of a row.
 struct Row {
@@ -28,8 +28,8 @@ struct Row {
 }
 
 // A number without needless noughts in front; zero keeps one.
-fn decimal(number: u64) -> Text
-    ensures { λ r. ⌜ contents r ≡ decimal number ⌝ }
+pub fn decimal(number: u64) -> Text
+    ensures { λ r. ⌜ (r ≡ textOf (decimal number)) × (contents r ≡ decimal number) ⌝ }
 {
     let mut all = [b'0'; 20];
     digits::put_digits(&mut all, 0, 20, number);
@@ -38,8 +38,8 @@ fn decimal(number: u64) -> Text
 }
 
 // `-` for what is absent.
-fn shown(text: Text) -> Text
-    ensures { λ r. ⌜ contents r ≡ shown (contents text) ⌝ }
+pub fn shown(text: Text) -> Text
+    ensures { λ r. ⌜ (r ≡ shownText text) × (contents r ≡ shown (contents text)) ⌝ }
 {
     if text.len == 0 {
         return Text::of(b"-");
@@ -85,7 +85,7 @@ fn row_of(message: u64, reading: Reading) -> Row
 }
 
 // A field and the blank behind it.
-fn put_field(line: &mut [u8], at: usize, field: Text) -> usize
+pub fn put_field(line: &mut [u8], at: usize, field: Text) -> usize
     ensures { λ r. ⌜ (r ≡ behindRun (now (line .entry)) at (parted (contents field))) × (now (line .exit) ≡ overRun (now (line .entry)) at (parted (contents field))) ⌝ }
 {
     let end = text::put_text(line, at, field);

@@ -25,7 +25,7 @@ unfolding bytes
 returns c =
     let d = c .before .before .before .before in
     let none = none-is _ (c .of .ensures) in
-    refused-is _ (d .before .before .before .args .reading) _ (d .before .before .decimal .ensures) (d .before .decimal2 .ensures) (d .decimal3 .ensures)
+    refused-is _ (d .before .before .before .args .reading) _ (d .before .before .decimal .ensures .1) (d .before .decimal2 .ensures .1) (d .decimal3 .ensures .1)
     (c .before .before .if1 .taken) none none none none
 
 kind-text-requires : tie.Need-kind-text-requires
@@ -44,8 +44,8 @@ returns-2 : tie.Need-returns-2
 returns-2 c =
     let i = c .before .before .before .before in
     let d = i .before .before in
-    told-is _ (d .before .before .before .args .reading) _ (d .before .before .decimal .ensures) (d .before .decimal2 .ensures) (d .decimal3 .ensures)
-    (i .if1 .left) (c .before .before .before .kind-text .ensures) (c .before .before .shown .ensures) (c .before .shown2 .ensures) (c .shown3 .ensures)
+    told-is _ (d .before .before .before .args .reading) _ (d .before .before .decimal .ensures .1) (d .before .decimal2 .ensures .1) (d .decimal3 .ensures .1)
+    (i .if1 .left) (c .before .before .before .kind-text .ensures) (c .before .before .shown .ensures .1) (c .before .shown2 .ensures .1) (c .shown3 .ensures .1)
 
 pub row-of-spec : {M : Type 1} → statement M
 row-of-spec =
