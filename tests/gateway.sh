@@ -1,13 +1,14 @@
 #!/bin/sh
-# The C entries, called by C programs that link the static library: tests/gateway.c and tests/pool.c, and the examples, each on its
-# batch. The desk's sheet is true of the pool's messages, and the desk's lister, which is the MT515's, refuses every one of them.
+# The C entries, called by C programs that link the static library: tests/gateway.c, tests/pool.c and tests/mt509.c, and the
+# examples: those of the MT515 each on its batch, that of the MT509 on the samples of document 003. The desk's sheet is true of the
+# pool's messages, and the desk's lister, which is the MT515's, refuses every one of them.
 set -eu
 cd "$(dirname "$0")/.."
 work=$(mktemp -d)
 trap 'rm -rf "$work"' EXIT
 
 library=$(bin/archive)
-for test in gateway pool; do
+for test in gateway pool mt509; do
     bin/cc-x86 -o "$work/$test" -std=c11 -Wall -Wextra -Werror -O2 -Iinclude "tests/$test.c" "$library"
     bin/run-x86 "$work/$test"
 done
@@ -16,6 +17,7 @@ done
 nm "$library" >"$work/names"
 grep -q ' T mt515_read$' "$work/names"
 grep -q ' T pool_read$' "$work/names"
+grep -q ' T mt509_read$' "$work/names"
 awk 'NF >= 2 && $(NF-1) ~ /^[BbCDdGgSsU]$/ && $NF !~ /^mem(cpy|move|set|cmp)$/ { print "the library has", $0; bad = 1 } END { exit bad }' "$work/names"
 echo 'the library has no data that can change, and calls nothing but memcpy and its like'
 
@@ -73,6 +75,24 @@ END
 bin/run-x86 target/bin/lister <examples/pool.batch >"$work/list"
 awk 'NR == 1 { print "MSG CODE LINE KIND MAST BUYR SELL"; next } { print $1, $1 == 14 ? "0 0 INST 0017 0017 0015" : "4 3 - - - -" }' "$work/rows" |
     diff - "$work/list"
+
+# The rows of the answers' example on its own batch are those of the desk's list, which README.md prints.
+examples/answers.sh >"$work/answers"
+sed -n '/^    MSG CODE LINE STATUS /,/^$/s/^    //p' README.md | diff - "$work/answers" || {
+    echo 'README.md < and the rows of examples/answers.sh > differ'
+    exit 1
+}
+
+# And on the samples of document 003, as printed and mended: the stored table has them in the same order, a name for the count.
+for ending in '' "$(printf '\r')"; do
+    sed "/^# /d; s/\$/$ending/" tests/samples/answers-printed.txt tests/samples/answers-mended.txt >"$work/samples.batch"
+    examples/answers.sh "$work/samples.batch" >"$work/answers"
+    { echo 'MSG CODE LINE STATUS MAST LIST RELA REASONS'
+      awk '!/^#/ && NF { print ++n, $2, $3, $4, $5, $6, $7, $8 }' tests/samples/answers-table.txt; } | diff - "$work/answers" || {
+        echo 'of the samples the table < and the list of answers > differ'
+        exit 1
+    }
+done
 
 # Of the desk's sheet: the first block between ~~~ is P, and each later one a change to it, with `The pool's list says` behind it.
 # All changed messages are one batch, after P itself.

@@ -1,5 +1,6 @@
 /* cases.c: see cases.h. A message is made as rows, a line each; near misses are changes to rows or to the bytes they give. Both
- * profiles are made by the same code: where they differ, `pool` of a sheet tells. */
+ * profiles of the MT515 are made by the same code: where they differ, `pool` of a sheet tells. What is of the MT509 alone stands in
+ * cases509.c; what is of all and differs in its lists goes by `answer` of a sheet. */
 #include "cases.h"
 
 #include <stdio.h>
@@ -40,7 +41,7 @@ enum { WIDEST_ROW = 120, MOST_ROWS = 160 };
 enum label {
     PASSWORD, SENDER, THIRD, FOURTH, GENL, SEME, FUNCTION, PREP, TRTR, LINK, MAST, PREV, LIST, LINK_END, GENL_END,
     CONFDET, TRAD, SETT, DEAL, MONEY, BUSE, PROC, PAYM, PARTY, BUYR, SELL, CONTRA, TDID, PARTY_END, PAR, CUSIP, FIA, POOL, FIA_END,
-    NARRATIVE, CONFDET_END, END, OTHER
+    NARRATIVE, CONFDET_END, END, RELA, BASK, PROG, COMM, STAT, STATUS, STAT_END, REAS, CODE, REASON, REAS_END, OTHER
 };
 
 struct row {
@@ -50,7 +51,7 @@ struct row {
 
 struct sheet {
     struct chance *chance;
-    bool pool;
+    bool pool, answer;
     size_t count;
     struct row rows[MOST_ROWS];
 };
@@ -461,15 +462,22 @@ static const char *const brackets[] = {
     ":16S:FIA", ":16R:OTHR", ":16S:OTHR", ":16R:0", ":16S:0"
 };
 
+static const char *const answer_brackets[] = {
+    ":16R:GENL", ":16S:GENL", ":16R:LINK", ":16S:LINK", ":16R:STAT", ":16S:STAT", ":16R:REAS", ":16S:REAS", ":16R:REAS", ":16S:REAS",
+    ":16R:CONFDET", ":16S:CONFDET", ":16R:0", ":16S:0"
+};
+
+static const char *some_bracket(struct sheet *s) { return s->answer ? PICK(s->chance, answer_brackets) : PICK(s->chance, brackets); }
+
 static void wrong_nesting(struct sheet *s)
 {
     size_t at = a_bracket(s), wide = strlen(s->rows[at].text);
     switch (below(s->chance, 7)) {
     case 0: drop(s, at); return;
     case 1: insert(s, at, OTHER, s->rows[at].text, ""); return;
-    case 2: at = any_row(s); insert(s, at, OTHER, PICK(s->chance, brackets), ""); return;
+    case 2: at = any_row(s); insert(s, at, OTHER, some_bracket(s), ""); return;
     case 3: exchange(s, at, a_bracket(s)); return;
-    case 4: put(s, at, OTHER, PICK(s->chance, brackets), ""); return;
+    case 4: put(s, at, OTHER, some_bracket(s), ""); return;
     case 5: s->rows[at].text[wide - (wide > 0)] = 0; return;
     default: put(s, at, OTHER, s->rows[at].text, text_of(s->chance, 1)); return;
     }
@@ -553,7 +561,8 @@ static size_t block_end(const struct sheet *s, size_t at)
 static size_t a_block(struct sheet *s)
 {
     static const enum label openers[] = { GENL, LINK, LINK, CONFDET, PARTY, PARTY, FIA };
-    enum label label = PICK(s->chance, openers);
+    static const enum label of_answers[] = { GENL, LINK, LINK, STAT, REAS, REAS, REAS };
+    enum label label = s->answer ? PICK(s->chance, of_answers) : PICK(s->chance, openers);
     size_t at = find(s, label), next = find_from(s, label, at + 1);
     return next < s->count && one_in(s->chance, 2) ? next : at;
 }
@@ -885,12 +894,14 @@ static change *const changes[] = {
     zero_par, early_settlement
 };
 
+#include "cases509.c"
+
 /* None, or one to three, of these changes. */
 static void near_miss(struct sheet *s)
 {
     size_t many = one_in(s->chance, 4) ? 0 : one_in(s->chance, 5) ? 2 : one_in(s->chance, 12) ? 3 : 1;
     for (size_t i = 0; i < many && s->count > 0; i++)
-        PICK(s->chance, changes)(s);
+        (s->answer ? PICK(s->chance, answer_changes) : PICK(s->chance, changes))(s);
 }
 
 /* ---------------------------------------------------------------- damage by lines
@@ -910,7 +921,7 @@ static void cut_short(struct sheet *s, char text[WIDEST_ROW]) { text[below(s->ch
 /* Another line of the message, or now and then the same. */
 static void like_another(struct sheet *s, char text[WIDEST_ROW]) { paste(text, WIDEST_ROW, s->rows[any_row(s)].text, ""); }
 
-static void bracket(struct sheet *s, char text[WIDEST_ROW]) { paste(text, WIDEST_ROW, PICK(s->chance, brackets), ""); }
+static void bracket(struct sheet *s, char text[WIDEST_ROW]) { paste(text, WIDEST_ROW, some_bracket(s), ""); }
 
 /* A blank put in, or a stretch of it in lower case. */
 static void untidy(struct sheet *s, char text[WIDEST_ROW])
@@ -942,13 +953,14 @@ typedef void odd_line(struct sheet *s, char text[WIDEST_ROW]);
 static odd_line *const odd_lines[] = { longer, cut_short, like_another, bracket, untidy, nothing, dash };
 enum { BEFORE_BLOCKS = 3 };     /* so many stand before the lines of blocks */
 
-/* A row between the header and `-`, and no line of a block where those are spared; now and then any row. */
+/* A row between the header and `-`, and no line of a block where those are spared; now and then any row, and so where no such row
+ * is found, since an MT509 has few of them and they may all be gone. */
 static size_t a_target(struct sheet *s, bool spared)
 {
     size_t at = any_row(s);
     if (one_in(s->chance, 40))
         return below(s->chance, s->count);
-    while (s->rows[at].label == END || (spared && is_bracket(&s->rows[at])))
+    for (size_t tries = 0; tries < 200 && (s->rows[at].label == END || (spared && is_bracket(&s->rows[at]))); tries++)
         at = any_row(s);
     return at;
 }
@@ -1075,13 +1087,17 @@ static void finish(struct chance *c, struct bytes *b)
     }
 }
 
-bool make_message(struct chance *chance, bool pool, struct bytes *message)
+bool make_message(struct chance *chance, enum sort sort, struct bytes *message)
 {
     static struct sheet s;
     s.chance = chance;
-    s.pool = pool;
+    s.pool = sort == POOLS;
+    s.answer = sort == ANSWERS;
     message->length = 0;
-    accepted(&s);
+    if (s.answer)
+        accepted_answer(&s);
+    else
+        accepted(&s);
     bool by_lines = one_in(chance, 4);
     if (by_lines)
         damage_lines(&s);
@@ -1254,13 +1270,20 @@ void make_record(struct chance *chance, uint8_t record[RECORD_BYTES])
 
 /* ---------------------------------------------------------------- batches */
 
-void make_batch(struct chance *chance, bool pool, struct bytes *batch)
+/* One of the others; the pool's where it is our own, and the other way round. */
+static enum sort another(struct chance *chance, enum sort sort)
+{
+    return sort == OURS ? POOLS : sort == POOLS || one_in(chance, 2) ? OURS : POOLS;
+}
+
+void make_batch(struct chance *chance, enum sort sort, struct bytes *batch)
 {
     static struct bytes message;
     static const char *const pieces[] = { "", "X\n-\n", "-\n", "-\r\n", "-\r\r\n", "\n", "\r\n", "X", "-", "X\n", "--\n", " -\n" };
     batch->length = 0;
     for (size_t many = below(chance, 5); many > 0; many--) {
-        make_message(chance, one_in(chance, 8) ? !pool : pool, &message);
+        enum sort of_it = one_in(chance, 8) ? another(chance, sort) : sort;
+        make_message(chance, of_it, &message);
         if (one_in(chance, 3)) {
             const char *piece = PICK(chance, pieces);
             message.length = strlen(piece);

@@ -1,7 +1,8 @@
 #!/bin/sh
 # check.sh - builds the second program and holds it against what document 01 prints:
 # B, the lister's example, "B and its neighbours"; then writing, and generated messages.
-# Then by the pool's profile against what the page of request A1 prints: P, and its worked cases.
+# Then by the pool's profile against what the page of request A1 prints: P, and its worked cases; and of the MT509 against what
+# the page of request A3 prints: R, its worked cases, and what becomes of the samples of document 003.
 # usage: check.sh [SEED COUNT]   (further generated messages; without: seed 1, 2700, the whole list of near misses)
 set -eu
 cd "$(dirname "$0")"
@@ -9,8 +10,12 @@ work=$(mktemp -d)
 trap 'rm -rf "$work"' EXIT
 flags="-std=c11 -Wall -Wextra -Werror"
 safe="-g -O1 -fsanitize=address,undefined -fno-sanitize-recover=all"
-cc $flags $safe second.c list.c -o "$work/list-checked" 2>/dev/null || cc $flags -O2 second.c list.c -o "$work/list-checked"
-cc $flags $safe second.c bytes.c records.c -o "$work/records-checked" 2>/dev/null || cc $flags -O2 second.c bytes.c records.c -o "$work/records-checked"
+# the second program takes no memory from the heap, so none can leak; the search for leaks takes seconds at every program's end
+export ASAN_OPTIONS=detect_leaks=0
+# build PROGRAM SOURCE..
+build() { cc $flags $safe -o "$@" 2>/dev/null || cc $flags -O2 -o "$@"; }
+build "$work/list-checked" second.c list.c
+build "$work/records-checked" second.c bytes.c cases.c records.c
 
 b() { cat <<'B'
 
@@ -135,8 +140,10 @@ echo "fields of B: as numbered"
 echo "plain form of B: as by the four rules"
 
 python3 pool.py P > "$work/p"
-"$work/records-checked" "$work/p"
+python3 mt509.py R > "$work/r"
+"$work/records-checked" "$work/p" "$work/r"
 echo "writing: every refusal, the order of refusals, the widest of each kind (718 770 822 699), of the pool's (648 752 752 682 700 700)"
+echo "writing: R's record changed as the page of A3 says, 20000 generated records and 6000 messages of the MT509, its widest (1476 551 550)"
 
 seed=${1:-1} count=${2:-2700}
 mkdir "$work/files"
@@ -179,3 +186,57 @@ echo "plain form of P: as by the four rules, 574 bytes"
     LC_ALL=C awk '/^# / { name = $2; next } name ~ /^widest/ { bytes[name] += length($0) + 1 }
         END { for (n in bytes) { split(n, part, "-"); tried++; if (bytes[n] != part[4]) exit 1 } exit tried != 12 }'
 echo "widest messages of the pool: as long as printed"
+
+# the MT509: R and every worked case, with LF, with CR LF and mixed; B and P as MT509, and R by both profiles of the MT515
+python3 mt509.py > "$work/answers"
+{ cat "$work/answers"; echo '# B,want=4@2'; b; echo '# P,want=4@2'; cat "$work/p"; } | "$work/list-checked" --mt509 | awk -f want.awk
+for profile in '' --pool; do
+    { echo '# R,want=4@3'; cat "$work/r"; } | "$work/list-checked" $profile | awk -f want.awk
+done
+"$work/list-checked" --mt509 --twice < "$work/answers"
+echo "R and its worked cases: as printed; plain form, write, field and batch agree"
+
+# R with CR LF: its length, its fields by offset and length and by their texts, its plain form
+sed "s/\$/$cr/" "$work/r" > "$work/r-crlf"
+test "$(wc -c < "$work/r-crlf")" -eq 396
+{ echo '# R'; cat "$work/r-crlf"; } | "$work/list-checked" --mt509 --fields | tr ' ' '\n' | sed 1d > "$work/stretches"
+for field in 1:55:8 4:167:4 6:127:4 7:207:11 11:248:10 12:287:4 13:305:9 14:354:4 15:0:0 31:0:0; do
+    test "${field%%:*}:$(sed -n "${field%%:*}p" "$work/stretches")" = "$field"
+done
+while IFS=: read -r offset length; do
+    dd if="$work/r-crlf" bs=1 skip="$offset" count="$length" 2>/dev/null; echo
+done < "$work/stretches" > "$work/fields"
+printf '%s\n' RTTM0005 INST 20240229093001 0017 '' 0008 000001-1306 '' '' '' IPRC//REJT E001 GSCC/MDRJ E016 \
+    '' '' '' '' '' '' '' '' '' '' '' '' '' '' '' '' '' | diff - "$work/fields"
+echo "fields of R: as printed"
+
+{ sed -n '1,8p' "$work/r"; sed -n '12,14p' "$work/r"; sed -n '9,11p' "$work/r"; sed -n '15,29p' "$work/r"; } | sed "s/\$/$cr/" > "$work/plain"
+test "$(wc -c < "$work/plain")" -eq 396
+for r in "$work/r" "$work/r-crlf"; do
+    { echo '# R'; cat "$r"; } | "$work/list-checked" --mt509 --plain | sed 1d | cmp - "$work/plain"
+done
+echo "plain form of R: as by the two rules, 396 bytes"
+
+"$work/list-checked" --mt509 --plain < "$work/answers" |
+    LC_ALL=C awk '/^# / { name = $2; next } name ~ /^widest/ { bytes[name] += length($0) + 1 }
+        END { for (n in bytes) { split(n, part, "-"); tried++; if (bytes[n] != part[4]) exit 1 } exit tried != 18 }'
+echo "widest MT509: as long as printed"
+
+# the list of answers: R, what is no message, an issuer, no LINK; its ends; and batches, a hundred of the worked cases each, of
+# which every message is answered as by itself
+heading='MSG CODE LINE STATUS MAST LIST RELA REASONS'
+{ cat "$work/r"; printf 'X\n-\n'; sed '9,17d; 19s|.*|:25D::IPRC/GSCC/MODA|; 20,26d' "$work/r"; } |
+    "$work/list-checked" --mt509 --lister > "$work/lister"
+printf '%s\n' "$heading" '1 0 0 IPRC/REJT 0017 000001-1306 0008 E001,E016' '2 4 2 - - - - -' '3 0 0 IPRC/MODA - - - -' | diff - "$work/lister"
+test "$("$work/list-checked" --mt509 --lister < /dev/null)" = "$heading"
+test "$(head -c 65537 /dev/zero | "$work/list-checked" --mt509 --lister)" = "TOO LONG"
+test "$(head -c 65536 /dev/zero | "$work/list-checked" --mt509 --lister | tail -1)" = "1 1 0 - - - - -"
+mkdir "$work/batches"
+awk -v folder="$work/batches" '/^# / { n++ } { print > (folder "/" int((n - 1) / 100)) }' "$work/answers"
+for batch in "$work/batches"/*; do
+    { echo "$heading"; "$work/list-checked" --mt509 < "$batch" | awk '{ $1 = NR; print }'; } > "$work/alone"
+    sed '/^# /d' "$batch" | "$work/list-checked" --mt509 --lister | diff "$work/alone" -
+done
+echo "list of answers: as asked for; heading for nothing, TOO LONG from 65,537 bytes; in a batch as alone"
+
+./answers.sh "$work/list-checked"

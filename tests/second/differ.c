@@ -1,19 +1,22 @@
-/* differ.c: holds the static library, called through include/mt515.h and include/pool.h, against the second program.
+/* differ.c: holds the static library, called through include/mt515.h, include/pool.h and include/mt509.h,
+ * against the second program.
  *
  * differ SEED COUNT [FROM]
  *     tries COUNT generated cases of a seed, from number FROM on. A case is a message; every tenth is a record too, and every
- *     hundredth a batch; and every fourth is a message of the pool, and of those every hundredth a batch of the pool. Where a
+ *     hundredth a batch; and every fourth is a message of each further type too, and of those every hundredth a batch. Where a
  *     number of the desk came up too seldom to say anything it ends with status 1.
  * differ -f FILE..
- *     tries messages from files, each under a line `# name`, as make.py and pool.py write them, by both profiles.
+ *     tries messages from files, each under a line `# name`, as make.py, pool.py and mt509.py write them, by every type.
  *
- * All that an entry answers is compared: numbers, lines, places, and every byte of what it is lent, with some bytes before and
- * behind. Every message is given to the reader of the other profile too, and no two profiles may accept one. On the first difference
- * it prints the case with both answers and the bytes given, and ends with status 1. */
+ * The further types are the pool's profile and the MT509. All that an entry answers is compared: numbers, lines, places, and every
+ * byte of what it is lent, with some bytes before and behind. Every message is given to the readers of the other types too, and no
+ * two may accept one. On the first difference it prints the case with both answers and the bytes given, and ends with status 1. */
 #define _DEFAULT_SOURCE
 #include "cases.h"
 #include "mt515.h"
 #include "pool.h"
+#include "mt509.h"
+_Static_assert(MT509_FIELDS == FIELDS_OF_MT509 + 3 && MT509_LONGEST == LONGEST_OF_MT509, "the header and the page count alike");
 
 #include <stdbool.h>
 #include <stdlib.h>
@@ -22,12 +25,13 @@
 
 enum {
     TENTH = 10, HUNDREDTH = 100,     /* of the messages so many are followed by a record, and by a batch */
-    FOURTH = 4,                      /* and so many by a message of the pool */
+    FOURTH = 4,                      /* and so many by a message of each further type */
     SELDOM = 400,                    /* a number that comes up in fewer than one of so many cases came up too seldom */
     GUARD = 16,                      /* bytes before and behind what is lent */
     MARK = 0xA5,
-    MOST_ROOM = LONGEST_WRITTEN + 100,
-    NUMBERS_OF_DESK = 22
+    AMPLE = 100,                     /* room beyond the longest message */
+    MOST_ROOM = LONGEST_OF_MT509 + AMPLE,
+    NUMBERS_OF_DESK = 23
 };
 
 /* ---------------------------------------------------------------- the case that is tried */
@@ -41,10 +45,12 @@ static struct {
 } now;
 
 /* How often each number came up, by entry; with reading once more of the messages damaged by lines alone, of the pool's messages
- * whose 70E line decides, and of the messages of the other profile. */
+ * whose 70E line decides, of the MT509 whose STAT block decides, and of the messages of the other types. */
 enum {
     READ, FIELD, PLACES, PLAIN, WRITE, NEXT, LINES, OTHERS,
-    POOL_READ, POOL_FIELD, POOL_PLAIN, POOL_NEXT, POOL_LINES, POOL_TAIL, POOL_OTHERS, COUNTED
+    POOL_READ, POOL_FIELD, POOL_PLAIN, POOL_NEXT, POOL_LINES, POOL_TAIL, POOL_OTHERS,
+    MT509_READ, MT509_FIELD, MT509_PLAIN, MT509_NEXT, MT509_LINES, MT509_STAT, MT509_OTHERS,
+    COUNTED
 };
 static uint64_t came_up[COUNTED][NUMBERS_OF_DESK];
 
@@ -57,7 +63,9 @@ enum {
     OF_NEXT = OF_READING | 1 << 21,
     OF_LINES = 1 | 1 << 5 | 1 << 6 | 7 << 8,
     OF_TAIL = 1 << 10 | 1 << 12,
-    OF_OTHERS = 1 << 4
+    OF_OTHERS = 1 << 4,
+    OF_ANSWERS = ((1 << 16) - 1 - (1 << 11)) | 1 << 22,    /* an MT509 has no amount, and no rule beyond 15 */
+    OF_STAT = 7 << 8 | 1 << 22
 };
 
 static const struct {
@@ -72,33 +80,58 @@ static const struct {
     [WRITE] = { "mt515_write", "", OF_WRITING, TENTH },
     [NEXT] = { "mt515_next", "", OF_NEXT, 1 },
     [LINES] = { "mt515_read", ", lines", OF_LINES, 1 },
-    [OTHERS] = { "mt515_read", ", the pool's", OF_OTHERS, FOURTH },
+    [OTHERS] = { "mt515_read", ", others'", OF_OTHERS, FOURTH },
     [POOL_READ] = { "pool_read", "", OF_READING, FOURTH },
     [POOL_FIELD] = { "pool_field", "", OF_READING, FOURTH },
     [POOL_PLAIN] = { "pool_plain", "", OF_PLAIN, FOURTH },
     [POOL_NEXT] = { "pool_next", "", OF_NEXT, FOURTH },
     [POOL_LINES] = { "pool_read", ", lines", OF_LINES, 2 * FOURTH },
     [POOL_TAIL] = { "pool_read", ", 70E", OF_TAIL, 2 * FOURTH },
-    [POOL_OTHERS] = { "pool_read", ", our own", OF_OTHERS, 1 },
+    [POOL_OTHERS] = { "pool_read", ", others'", OF_OTHERS, 1 },
+    [MT509_READ] = { "mt509_read", "", OF_ANSWERS, FOURTH },
+    [MT509_FIELD] = { "mt509_field", "", OF_ANSWERS, FOURTH },
+    [MT509_PLAIN] = { "mt509_plain", "", OF_ANSWERS | 1 << 19, FOURTH },
+    [MT509_NEXT] = { "mt509_next", "", OF_ANSWERS | 1 << 21, FOURTH },
+    [MT509_LINES] = { "mt509_read", ", lines", OF_LINES, 2 * FOURTH },
+    [MT509_STAT] = { "mt509_read", ", 24B, 25D, 70D, REAS", OF_STAT, 2 * FOURTH },
+    [MT509_OTHERS] = { "mt509_read", ", others'", OF_OTHERS, 1 },
 };
 
-/* What the two profiles have alike: a profile of the second program, and the entries of the library that go by it. */
+/* What the types have alike: a profile of the second program, and the entries of the library that go by it. */
 static const struct tested {
+    const char *name;
+    enum sort sort;
     const struct profile *second;
-    size_t fields;                   /* slots; behind them the password, and behind that the sender */
+    size_t longest, room;            /* the longest message, and the most room that is tried */
+    size_t fields;                   /* slots; behind them the password, and behind that the sender or receiver */
     uint8_t (*places)(const uint8_t *message, size_t length, size_t *starts, size_t *ends, size_t *line);
     uint8_t (*field)(const uint8_t *message, size_t length, size_t slot, size_t *offset, size_t *count);
     uint8_t (*plain)(const uint8_t *message, size_t length, uint8_t *out, size_t room, size_t *line, size_t *written);
-    int counts_places, counts_field, counts_plain, counts_next, counts_lines;
-} ours = { &second_mt515, FIELDS, mt515_places, mt515_field, mt515_plain, PLACES, FIELD, PLAIN, NEXT, LINES },
-  pools = { &second_pool, FIELDS_OF_POOL, pool_read, pool_field, pool_plain, POOL_READ, POOL_FIELD, POOL_PLAIN, POOL_NEXT, POOL_LINES };
+    uint8_t (*next)(const uint8_t *batch, size_t length, size_t position, size_t *line, size_t *next, uint8_t *number);
+    int counts_places, counts_field, counts_plain, counts_next, counts_lines, counts_others;
+} ours = { "our own profile", OURS, &second_mt515, LONGEST_WRITTEN, LONGEST_WRITTEN + AMPLE, FIELDS,
+           mt515_places, mt515_field, mt515_plain, NULL, PLACES, FIELD, PLAIN, NEXT, LINES, OTHERS },
+  pools = { "the pool", POOLS, &second_pool, LONGEST_OF_POOL, LONGEST_WRITTEN + AMPLE, FIELDS_OF_POOL,
+            pool_read, pool_field, pool_plain, pool_next, POOL_READ, POOL_FIELD, POOL_PLAIN, POOL_NEXT, POOL_LINES, POOL_OTHERS };
+
+static const struct tested answers = {
+    "the MT509", ANSWERS, &second_mt509, LONGEST_OF_MT509, LONGEST_OF_MT509 + AMPLE, FIELDS_OF_MT509,
+    mt509_read, mt509_field, mt509_plain, mt509_next, MT509_READ, MT509_FIELD, MT509_PLAIN, MT509_NEXT, MT509_LINES, MT509_OTHERS
+};
+
+/* Our own, which has entries for its record too, and then the further ones. */
+static const struct tested *const types[] = {
+    &ours, &pools,
+    &answers,
+};
+enum { TYPES = sizeof types / sizeof types[0], PLACES_TOLD = MOST_FIELDS + 3 };
 
 /* What an entry answers, and all that it is lent; marked beforehand, so that what it does not answer keeps the mark. */
 struct told {
     uint8_t found, between, number, behind;
     size_t line;
     size_t offset, count;            /* of a field */
-    size_t before, starts[MT515_FIELDS], between_places, ends[MT515_FIELDS], after;    /* of all fields, between guards */
+    size_t before, starts[PLACES_TOLD], between_places, ends[PLACES_TOLD], after;    /* of all fields, between guards */
     size_t written;
     size_t next;
     uint8_t lent[GUARD + MOST_ROOM + GUARD];    /* the record, or the buffer, between guards */
@@ -163,15 +196,22 @@ static void print_case(void)
         printf("seed %llu, case %llu", (unsigned long long)now.seed, (unsigned long long)now.number);
 }
 
+/* Whether an entry's name ends so: what it is asked is the same for every type. */
+static bool asks(int entry, const char *end)
+{
+    const char *name = counted[entry].entry;
+    return strcmp(name + strlen(name) - strlen(end), end) == 0;
+}
+
 /* What was asked: the entry, and what it was given beside the bytes. */
 static void print_asked(int entry)
 {
     printf("%s", counted[entry].entry);
-    if (entry == FIELD || entry == POOL_FIELD)
+    if (asks(entry, "_field"))
         printf(", slot %zu", now.slot);
-    if (entry == PLAIN || entry == POOL_PLAIN || entry == WRITE)
+    if (asks(entry, "_plain") || asks(entry, "_write"))
         printf(", room %zu", now.room);
-    if (entry == NEXT || entry == POOL_NEXT)
+    if (asks(entry, "_next"))
         printf(", position %zu", now.position);
     puts("");
 }
@@ -195,7 +235,7 @@ static void print_difference(int entry, const struct told *library, const struct
     print_asked(entry);
     print_told("the library       ", library);
     print_told("the second program", second);
-    for (size_t f = 0; f < MT515_FIELDS; f++)
+    for (size_t f = 0; f < PLACES_TOLD; f++)
         if (library->starts[f] != second->starts[f] || library->ends[f] != second->ends[f])
             printf("field %zu: %zu to %zu, %zu to %zu\n", f, library->starts[f], library->ends[f], second->starts[f],
                    second->ends[f]);
@@ -237,7 +277,7 @@ static void ask_read(const uint8_t *message, size_t length, int entry)
     compare(entry, &library, &second);
 }
 
-/* All fields, which is the pool's reading. */
+/* All fields, which is the reading of the further types. */
 static void ask_places(const struct tested *by, const uint8_t *message, size_t length, int entry)
 {
     static struct told library, second;
@@ -277,6 +317,7 @@ static void ask_field(const struct tested *by, const uint8_t *message, size_t le
 static void ask_fields(struct chance *chance, const struct tested *by, const uint8_t *message, size_t length, uint8_t number)
 {
     static const size_t none[] = { 23, 64, 255, 256, 257, 268, 65537, 4294967297u, 4294967308u, SIZE_MAX, SIZE_MAX - 20 };
+    static const size_t none_of_answers[] = { 34, 35, 64, 255, 256, 257, 267, 278, 65537, 4294967297u, 4294967308u, SIZE_MAX, SIZE_MAX - 30 };
     struct stretch fields[MOST_FIELDS + 3];
     second_fields_by(by->second, message, length, fields);
     for (size_t f = by->fields + 1; f < MOST_FIELDS + 3; f++)
@@ -289,7 +330,9 @@ static void ask_fields(struct chance *chance, const struct tested *by, const uin
             size_t slot = below(chance, by->fields + 3);
             ask_field(by, message, length, slot, number, fields[slot]);
         }
-    size_t beyond = below(chance, 4) == 0 ? by->fields + 3 : none[below(chance, sizeof none / sizeof none[0])];
+    size_t beyond = below(chance, 4) == 0 ? by->fields + 3
+                  : by->sort == ANSWERS ? none_of_answers[below(chance, sizeof none_of_answers / sizeof none_of_answers[0])]
+                  : none[below(chance, sizeof none / sizeof none[0])];
     ask_field(by, message, length, beyond, number, fields[0]);
 }
 
@@ -338,7 +381,7 @@ static size_t ask_next(const struct tested *by, const uint8_t *batch, size_t len
     if (by == &ours)
         library.found = mt515_next(batch, length, position, lent, &library.line, &library.next, &library.number);
     else
-        library.found = pool_next(batch, length, position, &library.line, &library.next, &library.number);
+        library.found = by->next(batch, length, position, &library.line, &library.next, &library.number);
 
     lent = marked(&second);
     struct next next = second_next_by(by->second, batch, length, position, &record);
@@ -356,14 +399,14 @@ static size_t ask_next(const struct tested *by, const uint8_t *batch, size_t len
 /* ---------------------------------------------------------------- rooms */
 
 /* Some room about a length: none, too little, just enough, more. */
-static size_t a_room(struct chance *chance, size_t length)
+static size_t a_room(struct chance *chance, const struct tested *by, size_t length)
 {
     switch (below(chance, 5)) {
     case 0: return 0;
     case 1: return length > 0 ? length - 1 : 0;
     case 2: return length;
     case 3: return below(chance, length + 1);
-    default: return below(chance, MOST_ROOM);
+    default: return below(chance, by->room);
     }
 }
 
@@ -379,12 +422,12 @@ static size_t write_in_room(const struct tested *by, const uint8_t *bytes, size_
 /* Ample room; just enough, and one byte less; one about the length; and now and then every one from 0 to one past the length. */
 static void ask_rooms(struct chance *chance, const struct tested *by, in_room *ask, const uint8_t *bytes, size_t length)
 {
-    size_t written = ask(by, bytes, length, MOST_ROOM);
+    size_t written = ask(by, bytes, length, by->room);
     if (written > 0) {
         ask(by, bytes, length, written);
         ask(by, bytes, length, written - 1);
     }
-    ask(by, bytes, length, a_room(chance, written));
+    ask(by, bytes, length, a_room(chance, by, written));
     if (below(chance, 500) == 0)
         for (size_t room = 0; room <= written + 1; room++)
             ask(by, bytes, length, room);
@@ -426,33 +469,51 @@ static bool line_begins(const struct bytes *message, size_t line, const char *wo
     return at + strlen(words) <= message->length && memcmp(message->at + at, words, strlen(words)) == 0;
 }
 
-/* The other profile's reader; that both accept one message must not be. */
-static void ask_other(const struct tested *by, const uint8_t *message, size_t length, int number)
+/* The readers of the other types; that two accept one message must not be. */
+static void ask_others(const struct tested *by, const uint8_t *message, size_t length, int number)
 {
     union any_record record;
-    if (by == &ours)
-        ask_places(&pools, message, length, POOL_OTHERS);
-    else
-        ask_read(message, length, OTHERS);
-    if (number == ACCEPTED && second_read_by((by == &ours ? &pools : &ours)->second, message, length, &record).number == ACCEPTED)
-        fail("both profiles accept the message");
+    for (size_t k = 0; k < TYPES; k++) {
+        if (types[k] == by)
+            continue;
+        if (types[k] == &ours)
+            ask_read(message, length, OTHERS);
+        else
+            ask_places(types[k], message, length, types[k]->counts_others);
+        if (number == ACCEPTED && second_read_by(types[k]->second, message, length, &record).number == ACCEPTED)
+            fail("two types accept the message");
+    }
 }
 
-/* What the second program writes of the pool's record, which no entry of the library is asked to write: it is the plain form of
- * the message, and one more message to read. */
-static void try_written(const struct pool_record *record, const struct bytes *message)
+/* A message that the second program has written of a record of a further type, which no entry of the library is asked to write: it
+ * is one more message to read. */
+static void ask_written(const struct tested *by, const struct bytes *written)
+{
+    const uint8_t *lent = lend(written->at, written->length);
+    ask_places(by, lent, written->length, by->counts_places);
+    if (ask_plain(by, lent, written->length, written->length) != written->length)
+        fail("what was written is not its own plain form");
+    still(lent, written->at, written->length, "the written message was changed");
+}
+
+/* What is written of a message's record is the plain form of the message. */
+static void try_written(const struct tested *by, const union any_record *record, const struct bytes *message)
 {
     static struct bytes written;
-    uint8_t plain[LONGEST_OF_POOL];
-    struct written w = second_write_by(&second_pool, record, written.at, LONGEST_OF_POOL);
-    struct written p = second_plain_by(&second_pool, message->at, message->length, plain, LONGEST_OF_POOL);
+    uint8_t plain[MOST_ROOM];
+    struct written w = second_write_by(by->second, record, written.at, by->longest);
+    struct written p = second_plain_by(by->second, message->at, message->length, plain, by->longest);
     if (w.number != ACCEPTED || w.length != p.length || memcmp(written.at, plain, p.length) != 0)
         fail("the second program writes something else than the plain form");
     written.length = w.length;
-    const uint8_t *lent = lend(written.at, written.length);
-    ask_places(&pools, lent, written.length, POOL_READ);
-    ask_plain(&pools, lent, written.length, written.length);
-    still(lent, written.at, written.length, "the written message was changed");
+    ask_written(by, &written);
+}
+
+/* Whether the line is one of STAT and what stands in it. */
+static bool of_stat(const struct bytes *message, size_t line)
+{
+    return line_begins(message, line, ":25D:") || line_begins(message, line, ":24B:") || line_begins(message, line, ":70D:")
+        || line_begins(message, line, ":16R:REAS") || line_begins(message, line, ":16S:REAS") || line_begins(message, line, ":16S:STAT");
 }
 
 /* Answers the number of the read. */
@@ -469,16 +530,18 @@ static int try_message(struct chance *chance, const struct tested *by, const str
     if (answer.number == ACCEPTED)
         ask_rooms(chance, by, ask_plain, lent, message->length);
     else
-        ask_plain(by, lent, message->length, a_room(chance, MOST_ROOM - 1));
+        ask_plain(by, lent, message->length, a_room(chance, by, by->room - 1));
     ask_next(by, lent, message->length, 0);
     ask_next(by, lent, message->length, below(chance, message->length + 4));
-    ask_other(by, lent, message->length, answer.number);
+    ask_others(by, lent, message->length, answer.number);
     still(lent, message->at, message->length, "the message was changed");
 
     if (by == &pools && answer.line > 0 && line_begins(message, answer.line, ":70E::TPRO"))
         came_up[POOL_TAIL][answer.number]++;
-    if (by == &pools && answer.number == ACCEPTED)
-        try_written(&record.pool, message);
+    if (by == &answers && answer.line > 0 && of_stat(message, answer.line))
+        came_up[MT509_STAT][answer.number]++;
+    if (by != &ours && answer.number == ACCEPTED)
+        try_written(by, &record, message);
     return answer.number;
 }
 
@@ -491,11 +554,30 @@ static void try_record(struct chance *chance)
     still(lent, record, RECORD_BYTES, "the record was changed");
 }
 
+/* A record of the MT509; where it can be written, what is written is read by both. */
+static void try_mt509_record(struct chance *chance, const struct tested *by)
+{
+    static struct bytes written;
+    struct mt509_record record, again;
+    int wanted = make_mt509_record(chance, &record);
+    struct written w = second_write_by(by->second, &record, written.at, by->longest);
+    written.length = w.length;
+    now.bytes = written.at;
+    now.length = written.length;
+    if (w.number != wanted)
+        fail("a record is not answered as it was made for");
+    if (w.number != ACCEPTED)
+        return;
+    if (second_read_by(by->second, written.at, written.length, &again).number != ACCEPTED || memcmp(&again, &record, sizeof record) != 0)
+        fail("what was written reads as another record");
+    ask_written(by, &written);
+}
+
 /* From message to message; then from some positions, or from every one, to past the end. */
 static void try_batch(struct chance *chance, const struct tested *by)
 {
     static struct bytes batch;
-    make_batch(chance, by == &pools, &batch);
+    make_batch(chance, by->sort, &batch);
     const uint8_t *lent = lend(batch.at, batch.length);
     size_t position = 0;
     while (position < batch.length)
@@ -513,7 +595,7 @@ static void try_batch(struct chance *chance, const struct tested *by)
 static void try_generated(struct chance *chance, const struct tested *by)
 {
     static struct bytes message;
-    bool by_lines = make_message(chance, by == &pools, &message);
+    bool by_lines = make_message(chance, by->sort, &message);
     int answer = try_message(chance, by, &message);
     if (by_lines)
         came_up[by->counts_lines][answer]++;
@@ -530,10 +612,13 @@ static void try_case(uint64_t seed, uint64_t number)
         try_record(&chance);
     if (number % HUNDREDTH == 0)
         try_batch(&chance, &ours);
-    if (number % FOURTH == 0)
-        try_generated(&chance, &pools);
-    if (number % (FOURTH * HUNDREDTH) == 0)
-        try_batch(&chance, &pools);
+    for (size_t k = 1; k < TYPES && number % FOURTH == 0; k++) {
+        try_generated(&chance, types[k]);
+        if (number % (FOURTH * HUNDREDTH) == 0)
+            try_batch(&chance, types[k]);
+        if (types[k]->sort == ANSWERS && number % (FOURTH * TENTH) == 0)
+            try_mt509_record(&chance, types[k]);
+    }
 }
 
 /* ---------------------------------------------------------------- whether it reached everything */
@@ -576,9 +661,12 @@ static int try_cases(uint64_t seed, uint64_t count, uint64_t from)
         puts("FAILED: a number came up too seldom");
         return 1;
     }
-    printf("ok, %llu messages, %llu records and %llu batches, and %llu messages and %llu batches of the pool, are answered alike\n",
-           every(1, count, from), every(TENTH, count, from), every(HUNDREDTH, count, from), every(FOURTH, count, from),
-           every(FOURTH * HUNDREDTH, count, from));
+    printf("ok, %llu messages, %llu records and %llu batches", every(1, count, from), every(TENTH, count, from),
+           every(HUNDREDTH, count, from));
+    for (size_t k = 1; k < TYPES; k++)
+        printf(", and %llu messages and %llu batches of %s", every(FOURTH, count, from), every(FOURTH * HUNDREDTH, count, from),
+               types[k]->name);
+    puts(", are answered alike");
     return 0;
 }
 
@@ -615,8 +703,8 @@ static size_t try_file(FILE *file)
             message.length += length;
         }
         chance_start(&chance, message.length, tried++);
-        try_message(&chance, &ours, &message);
-        try_message(&chance, &pools, &message);
+        for (size_t k = 0; k < TYPES; k++)
+            try_message(&chance, types[k], &message);
     }
     return tried;
 }
@@ -634,7 +722,7 @@ static int try_files(char **names)
         tried += of_file;
         fclose(file);
     }
-    printf("ok, %zu messages from files are answered alike, by both profiles\n", tried);
+    printf("ok, %zu messages from files are answered alike, by %d types\n", tried, TYPES);
     return 0;
 }
 

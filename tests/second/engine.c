@@ -1,6 +1,7 @@
-/* engine.c - what the profiles of the second program share: bytes, lines, nesting, the walk
- * over a layout, values, kinds, plain form, writing, batch and fields. A profile's tables
- * come in as data (struct profile). The parts stand in the order of document 01. */
+/* engine.c - what the message types of the second program share: bytes, lines, nesting, the walk
+ * over a layout, values, kinds, plain form, writing, batch and fields. The tables of a type, or of
+ * one of the MT515's profiles, come in as data (struct profile). The parts stand in the order of
+ * document 01. */
 #include "second.h"
 
 #include <stdbool.h>
@@ -12,22 +13,21 @@
 static bool is_digit(uint8_t b) { return b >= '0' && b <= '9'; }
 static bool is_upper(uint8_t b) { return b >= 'A' && b <= 'Z'; }
 static bool is_c(uint8_t b) { return is_digit(b) || is_upper(b); }
+static bool is_c_or_hyphen(uint8_t b) { return is_c(b) || b == '-'; }
+static bool is_printable(uint8_t b) { return b >= 0x20 && b <= 0x7E; }
 
-static bool all_c(const uint8_t *at, size_t length)
+typedef bool byte_class(uint8_t b);
+
+static bool all_of(const uint8_t *at, size_t length, byte_class *class)
 {
     for (size_t i = 0; i < length; i++)
-        if (!is_c(at[i]))
+        if (!class(at[i]))
             return false;
     return true;
 }
 
-static bool all_digits(const uint8_t *at, size_t length)
-{
-    for (size_t i = 0; i < length; i++)
-        if (!is_digit(at[i]))
-            return false;
-    return true;
-}
+static bool all_c(const uint8_t *at, size_t length) { return all_of(at, length, is_c); }
+static bool all_digits(const uint8_t *at, size_t length) { return all_of(at, length, is_digit); }
 
 static bool is_exactly(const uint8_t *at, size_t length, const char *text)
 {
@@ -50,17 +50,19 @@ static unsigned number_of_digits(const uint8_t *at, size_t length)
 
 /* ---------------------------------------------------------------- a profile */
 
-/* The blocks are the same in every profile. */
-enum { TOP, GENL, LINK, CONFDET, CONFPRTY, FIA, NO_BLOCK };
+/* Every type has some of these blocks. */
+enum { TOP, GENL, LINK, CONFDET, CONFPRTY, FIA, STAT, REAS, NO_BLOCK };
 
 /* What a value is made of. */
-enum form { NO_VALUE, TEXT, FUNCTION, WORD, AMOUNT, DATE, MOMENT, NARRATIVE };
+enum form { NO_VALUE, TEXT, FREE_TEXT, FUNCTION, WORD, AMOUNT, DATE, MOMENT, NARRATIVE };
 
 #define ANY_NUMBER ((size_t)-1)
 
+enum { SPELLINGS = 7, DEEPEST_SLOT = 4 };    /* LINK of an MT509; REAS in STAT in GENL */
+
 struct slot {
     int block;               /* the block in which the slot stands */
-    const char *fits[3];     /* tag and qualifier; the whole line where whole is set */
+    const char *fits[SPELLINGS];    /* tag and qualifier; the whole line where whole is set */
     bool whole;              /* 16R, 16S and the last line */
     size_t least, most;      /* how often: M is least 1, O is least 0 */
     int opens;               /* the block this line opens */
@@ -69,14 +71,21 @@ struct slot {
     const char *fixed;       /* the text between the qualifier and the value */
     enum form form;
     size_t narrowest, widest;
+    size_t kept;             /* how much of what it fits by is of the value: the qualifier of 25D */
+    int over;                /* the number of one more than most, where that is not 8 */
 };
 
-#define OPEN(block, line, least, most, opens) \
-    { block, { line, NULL, NULL }, true, least, most, opens, false, 0, "", NO_VALUE, 0, 0 }
-#define CLOSE(block, line) \
-    { block, { line, NULL, NULL }, true, 1, 1, NO_BLOCK, true, 0, "", NO_VALUE, 0, 0 }
-#define LINE(block, line, least, field, fixed, form, narrowest, widest) \
-    { block, { line, NULL, NULL }, false, least, 1, NO_BLOCK, false, field, fixed, form, narrowest, widest }
+#define OPEN(in, line, few, many, into) \
+    { .block = in, .fits = { line }, .whole = true, .least = few, .most = many, .opens = into, .fixed = "" }
+#define CLOSE(in, line) \
+    { .block = in, .fits = { line }, .whole = true, .least = 1, .most = 1, .opens = NO_BLOCK, .closes = true, .fixed = "" }
+#define LINE(in, line, few, number, before, of, narrow, wide) \
+    { .block = in, .fits = { line }, .least = few, .most = 1, .opens = NO_BLOCK, .field = number, .fixed = before, .form = of, \
+      .narrowest = narrow, .widest = wide }
+/* A line that must be there, with one of several qualifiers, each of them once in a message. */
+#define CHOICE(in, number, before, narrow, wide, ...) \
+    { .block = in, .fits = { __VA_ARGS__ }, .least = 1, .most = 1, .opens = NO_BLOCK, .field = number, .fixed = before, .form = TEXT, \
+      .narrowest = narrow, .widest = wide }
 
 /* Where the value of a field goes in the record: the offset of a member of the type that
  * its form asks for. */
@@ -84,6 +93,7 @@ struct place {
     size_t at;
     size_t present;              /* of the member that says that it is there; 0 where there is none */
     const char *const *words;    /* of a code word: the list, ended by NULL */
+    bool hyphens;                /* of a text: it may have them, beside c */
 };
 
 /* A row of the table of kinds: a letter for each kind, M must, O may, - never. */
@@ -102,16 +112,20 @@ struct page {
 };
 
 struct profile {
-    const char *header[2];       /* its third and fourth line */
+    const char *header[3];       /* its second, third and fourth line; NULL for the member's, which is the sender's or the receiver's */
     const struct slot *slots;    /* those of a block together, the last one closing it */
     size_t slot_count;
     unsigned fields;             /* slots with a value */
-    unsigned party_fields;       /* of them in one party's block */
-    const struct place *places;  /* by field; then of the password and of the sender */
+    unsigned block_fields;       /* of them in one party's block, or in one REAS */
+    const struct place *places;  /* by field; then of the password and of the member */
+    const char *const *functions;   /* the words of 23G, ended by NULL */
     const struct rule *rules;
     size_t rule_count;
     size_t record_size;
-    size_t kind, side, contra[2], trade, settlement, par;    /* offsets in the record; contra: the buyer's, the seller's */
+    size_t kind, side, contra[2], trade, settlement, par;    /* offsets in the record of an MT515; contra: the buyer's, the seller's */
+    void (*hold_function)(int function, void *record);       /* what the record holds of 23G; NULL where it holds nothing */
+    bool (*function_stands)(const struct profile *by, int function, const void *record);    /* number 13, where this is false */
+    int (*judge)(const struct profile *by, const void *record);              /* 14 to 17, which reading and writing share */
     int (*read_narrative)(const uint8_t *at, size_t length, void *record);   /* what follows the fixed text: 0, 10 or 12 */
     bool (*record_stands)(const void *record);                               /* number 18, where this is false */
     size_t (*put_message)(struct page *page, const void *record);            /* in plain form; answers the narrative's length */
@@ -133,7 +147,7 @@ static size_t first_slot(const struct profile *by, int block)
 /* Which of the slot's spellings the line has, or -1. */
 static int fitting(const struct slot *slot, const uint8_t *at, size_t length)
 {
-    for (int a = 0; a < 3 && slot->fits[a]; a++)
+    for (int a = 0; a < SPELLINGS && slot->fits[a]; a++)
         if (slot->whole ? is_exactly(at, length, slot->fits[a]) : begins_with(at, length, slot->fits[a]))
             return a;
     return -1;
@@ -155,7 +169,7 @@ struct reading {
     size_t length;
     size_t count;
     struct line lines[LONGEST_READ];
-    int function;                /* 23G: 0 NEWM, 1 CANC */
+    int function;                /* 23G: its place among the functions */
     void *record;                /* of the profile's type */
 };
 
@@ -237,7 +251,16 @@ static struct answer pass_end(const struct reading *r)
     return passed;
 }
 
-/* Number 4: password, sender, and two fixed lines. A message too short for the
+/* Which line of the header is the member's, counted from 0. */
+static size_t member_line(const struct profile *by)
+{
+    size_t i = 1;
+    while (by->header[i - 1])
+        i++;
+    return i;
+}
+
+/* Number 4: password, the member's line, and two fixed ones. A message too short for the
  * four lines meets its `-` here, which is none of them. */
 static struct answer pass_header(const struct reading *r)
 {
@@ -245,9 +268,8 @@ static struct answer pass_header(const struct reading *r)
         const uint8_t *at = content(r, i);
         size_t length = r->lines[i].length;
         bool good = i == 0 ? length <= 12 && all_c(at, length)
-                  : i == 1 ? length >= 1 && length <= 8 && all_c(at, length)
-                  : i == 2 ? is_exactly(at, length, r->by->header[0])
-                           : is_exactly(at, length, r->by->header[1]);
+                  : i == member_line(r->by) ? length >= 1 && length <= 8 && all_c(at, length)
+                  : is_exactly(at, length, r->by->header[i - 1]);
         if (!good)
             return refused(BAD_HEADER, i + 1);
     }
@@ -295,27 +317,27 @@ static struct answer pass_blocks(const struct reading *r)
     return depth > 0 ? refused(BAD_CLOSE, last + 1) : passed;
 }
 
-/* Slots with a value, numbered from 1 in the table's order; MAST, PREV, LIST each,
- * the buyer's before the seller's. */
-static unsigned field_number(const struct profile *by, const struct slot *slot, int spelling, int party)
+/* Slots with a value, numbered from 1 in the table's order; those of LINK each, the buyer's before
+ * the seller's, those of a REAS before those of the next. */
+static unsigned field_number(const struct profile *by, const struct slot *slot, int spelling, size_t which)
 {
     if (slot->field == 0)
         return 0;
     if (slot->block == LINK)
         return slot->field + (unsigned)spelling;
-    if (slot->block == CONFPRTY)
-        return slot->field + by->party_fields * (unsigned)party;
+    if (slot->block == CONFPRTY || slot->block == REAS)
+        return slot->field + by->block_fields * (unsigned)which;
     return slot->field;
 }
 
-/* Numbers 8, 9 in one pass, from line 5 to the `-` line. */
+/* Numbers 8, 9, 22 in one pass, from line 5 to the `-` line. */
 static struct answer pass_layout(struct reading *r)
 {
     const struct slot *slots = r->by->slots;
-    struct { size_t slot; size_t times; } level[3];   /* top, in a block, in a block of CONFDET or GENL */
+    struct { size_t slot; size_t times; } level[DEEPEST_SLOT];
     size_t depth = 0;
-    bool met[NO_BLOCK][3] = { { false } };            /* the spellings of a slot that has several, by its block */
-    int party = 0;
+    bool met[NO_BLOCK][SPELLINGS] = { { false } };    /* the spellings of a slot that has several, by its block */
+    size_t which = 0;                                 /* of the blocks of one name: a party by its 95R, a REAS by its place */
 
     level[0].slot = first_slot(r->by, TOP);
     level[0].times = 0;
@@ -327,7 +349,8 @@ static struct answer pass_layout(struct reading *r)
         int block = slots[here].block;
 
         /* from here on: the slot used last if it can take another, else the one after it */
-        size_t s = level[depth].times < slots[here].most ? here : here + 1;
+        bool full = level[depth].times == slots[here].most;
+        size_t s = full ? here + 1 : here;
         int spelling = -1;
         for (; s < r->by->slot_count && slots[s].block == block; s++) {
             spelling = fitting(&slots[s], at, length);
@@ -335,15 +358,15 @@ static struct answer pass_layout(struct reading *r)
                 break;
         }
         if (spelling < 0)
-            return refused(NO_SLOT, i + 1);
+            return refused(full && slots[here].over > 0 && fitting(&slots[here], at, length) >= 0 ? slots[here].over : NO_SLOT, i + 1);
 
-        /* each LINK and 95R qualifier at most once */
+        /* each LINK and 95R qualifier at most once; a second 25D has found no slot */
         if (slots[s].fits[1] != NULL) {
             if (met[block][spelling])
                 return refused(NO_SLOT, i + 1);
             met[block][spelling] = true;
             if (block == CONFPRTY)
-                party = spelling;
+                which = (size_t)spelling;
         }
 
         /* a mandatory slot passed over */
@@ -355,9 +378,11 @@ static struct answer pass_layout(struct reading *r)
         level[depth].slot = s;
         r->lines[i].slot = &slots[s];
         r->lines[i].spelling = spelling;
-        r->lines[i].field = field_number(r->by, &slots[s], spelling, party);
+        r->lines[i].field = field_number(r->by, &slots[s], spelling, which);
 
         if (slots[s].opens != NO_BLOCK) {
+            if (slots[s].opens == REAS)
+                which = level[depth].times - 1;
             depth++;
             level[depth].slot = first_slot(r->by, slots[s].opens);
             level[depth].times = 0;
@@ -376,6 +401,13 @@ static void set_text(struct text *text, const uint8_t *at, size_t length)
     text->length = length;
 }
 
+static void set_free_text(struct free_text *text, const uint8_t *at, size_t length)
+{
+    memset(text, 0, sizeof *text);
+    memcpy(text->bytes, at, length);
+    text->length = length;
+}
+
 /* A code word: its place in the list, or -1. */
 static int word_in(const uint8_t *at, size_t length, const char *const *list)
 {
@@ -385,7 +417,7 @@ static int word_in(const uint8_t *at, size_t length, const char *const *list)
     return -1;
 }
 
-static const char *const function_words[] = { "NEWM", "CANC", NULL };
+static const char *const trade_functions[] = { "NEWM", "CANC", NULL };
 static const char *const side_words[] = { "BUYI", "SELL", NULL };
 
 /* Amounts: 1 to 15 characters, digits and exactly one comma, at least one digit before it. */
@@ -487,13 +519,22 @@ static int read_value(struct reading *r, const struct line *line, const uint8_t 
         *(int *)member(r->record, place->present) = 1;
     switch (slot->form) {
     case TEXT:
-        if (length < slot->narrowest || length > slot->widest || !all_c(at, length))
+        if (length < slot->narrowest || length > slot->widest || !all_of(at, length, place->hyphens ? is_c_or_hyphen : is_c))
             return BAD_VALUE;
         set_text(value, at, length);
         return ACCEPTED;
+    case FREE_TEXT:
+        if (length < slot->narrowest || length > slot->widest || !all_of(at, length, is_printable))
+            return BAD_VALUE;
+        set_free_text(value, at, length);
+        return ACCEPTED;
     case FUNCTION:
-        r->function = word_in(at, length, function_words);
-        return r->function < 0 ? BAD_VALUE : ACCEPTED;
+        r->function = word_in(at, length, r->by->functions);
+        if (r->function < 0)
+            return BAD_VALUE;
+        if (r->by->hold_function)
+            r->by->hold_function(r->function, r->record);
+        return ACCEPTED;
     case WORD:
         word = word_in(at, length, place->words);
         if (word < 0)
@@ -517,7 +558,7 @@ static int read_value(struct reading *r, const struct line *line, const uint8_t 
 /* Where the value of a line begins, counted from the line's start: after tag, qualifier and fixed text. */
 static size_t value_start(const struct line *line)
 {
-    return strlen(line->slot->fits[line->spelling]) + strlen(line->slot->fixed);
+    return strlen(line->slot->fits[line->spelling]) - line->slot->kept + strlen(line->slot->fixed);
 }
 
 /* Numbers 10, 11, 12 in one pass. */
@@ -526,7 +567,8 @@ static struct answer pass_values(struct reading *r)
     const struct place *header = &r->by->places[r->by->fields + 1];
     second_blank_by(r->by, r->record);
     set_text(member(r->record, header[0].at), content(r, 0), r->lines[0].length);
-    set_text(member(r->record, header[1].at), content(r, 1), r->lines[1].length);
+    size_t own = member_line(r->by);
+    set_text(member(r->record, header[1].at), content(r, own), r->lines[own].length);
 
     for (size_t i = 4; i < r->count; i++) {
         const struct line *line = &r->lines[i];
@@ -541,12 +583,12 @@ static struct answer pass_values(struct reading *r)
     return passed;
 }
 
-/* ---------------------------------------------------------------- kinds */
+/* ---------------------------------------------------------------- kinds of an MT515 */
 
-/* Number 13. */
-static bool function_against_kind(int function, int kind)
+/* 23G is CANC for CANC and NEWM for the others. */
+static bool function_of_kind(const struct profile *by, int function, const void *record)
 {
-    return (function == 1) != (kind == KIND_CANC);
+    return (function == 1) == (int_held(record, by->kind) == KIND_CANC);
 }
 
 /* Whether a party has a contra reference, 0 the buyer and 1 the seller. */
@@ -588,7 +630,7 @@ static bool settles_before_trade(const struct date *s, const struct date *t)
     return s->day < t->day;
 }
 
-/* 14 to 17, which reading and writing share. */
+/* 14 to 17. */
 static int kind_number(const struct profile *by, const void *record)
 {
     const struct par *par = held(record, by->par);
@@ -604,12 +646,14 @@ static int kind_number(const struct profile *by, const void *record)
     return ACCEPTED;
 }
 
+/* ---------------------------------------------------------------- what the fields say together */
+
 /* Numbers 13 to 17, line 0. */
 static struct answer pass_kind(const struct reading *r)
 {
-    if (function_against_kind(r->function, int_held(r->record, r->by->kind)))
+    if (!r->by->function_stands(r->by, r->function, r->record))
         return refused(AGAINST_KIND, 0);
-    return refused(kind_number(r->by, r->record), 0);
+    return refused(r->by->judge(r->by, r->record), 0);
 }
 
 /* ---------------------------------------------------------------- reading */
@@ -739,26 +783,28 @@ static void put_plain_block(struct page *page, const struct reading *r, size_t f
         }
 }
 
+/* All blocks of one name that stand from a line on, in the order of the qualifiers that their first field may have. Answers the
+ * line after them. */
+static size_t put_plain_blocks(struct page *page, const struct reading *r, size_t i, const char *open, const char *close, int block)
+{
+    const struct slot *first = &r->by->slots[first_slot(r->by, block)];
+    size_t to = after_blocks(r, i, open, close);
+    for (size_t a = 0; a < SPELLINGS && first->fits[a]; a++)
+        put_plain_block(page, r, i, to, close, first->fits[a]);
+    return to;
+}
+
 /* The four rules on an accepted text; second rule LINK, third rule the parties. */
 static void put_plain_form(struct page *page, const struct reading *r)
 {
     size_t i = 0;
     while (i < r->count) {
-        if (line_is(r, i, ":16R:LINK")) {
-            size_t to = after_blocks(r, i, ":16R:LINK", ":16S:LINK");
-            put_plain_block(page, r, i, to, ":16S:LINK", ":20C::MAST");
-            put_plain_block(page, r, i, to, ":16S:LINK", ":20C::PREV");
-            put_plain_block(page, r, i, to, ":16S:LINK", ":20C::LIST");
-            i = to;
-        } else if (line_is(r, i, ":16R:CONFPRTY")) {
-            size_t to = after_blocks(r, i, ":16R:CONFPRTY", ":16S:CONFPRTY");
-            put_plain_block(page, r, i, to, ":16S:CONFPRTY", ":95R::BUYR");
-            put_plain_block(page, r, i, to, ":16S:CONFPRTY", ":95R::SELL");
-            i = to;
-        } else {
-            put_plain_line(page, r, i);
-            i++;
-        }
+        if (line_is(r, i, ":16R:LINK"))
+            i = put_plain_blocks(page, r, i, ":16R:LINK", ":16S:LINK", LINK);
+        else if (line_is(r, i, ":16R:CONFPRTY"))
+            i = put_plain_blocks(page, r, i, ":16R:CONFPRTY", ":16S:CONFPRTY", CONFPRTY);
+        else
+            put_plain_line(page, r, i++);
     }
 }
 
@@ -778,15 +824,21 @@ struct written second_plain_by(const struct profile *by, const uint8_t *message,
 
 /* ---------------------------------------------------------------- writing a record */
 
-/* A text of the record: its width, c, and zero bytes after. */
-static bool text_stands(const struct text *text, size_t narrowest, size_t widest)
+/* The bytes of a text in its room: their count, their class, and zero bytes after. */
+static bool bytes_stand(const uint8_t *bytes, size_t room, size_t length, size_t narrowest, size_t widest, byte_class *class)
 {
-    if (text->length < narrowest || text->length > widest || !all_c(text->bytes, text->length))
+    if (length < narrowest || length > widest || !all_of(bytes, length, class))
         return false;
-    for (size_t i = text->length; i < WIDEST_TEXT; i++)
-        if (text->bytes[i] != 0)
+    for (size_t i = length; i < room; i++)
+        if (bytes[i] != 0)
             return false;
     return true;
+}
+
+/* A text of the record, of c. */
+static bool text_stands(const struct text *text, size_t narrowest, size_t widest)
+{
+    return bytes_stand(text->bytes, WIDEST_TEXT, text->length, narrowest, widest, is_c);
 }
 
 static bool optional_text_stands(const struct text *text, size_t narrowest, size_t widest)
@@ -803,6 +855,17 @@ static bool moment_stands(const struct moment *moment)
 static bool date_is_zero(const struct date *date)
 {
     return date->year == 0 && date->month == 0 && date->day == 0;
+}
+
+static bool moment_is_zero(const struct moment *moment)
+{
+    return date_is_zero(&moment->date) && moment->time.hour == 0 && moment->time.minute == 0 && moment->time.second == 0;
+}
+
+/* A date and time that may be absent. */
+static bool optional_moment_stands(int present, const struct moment *moment)
+{
+    return present == 0 ? moment_is_zero(moment) : present == 1 && moment_stands(moment);
 }
 
 /* Shortest form, and a text of at most 15 characters. */
@@ -907,7 +970,7 @@ struct written second_write_by(const struct profile *by, const void *record, uin
     struct page page;
     if (!by->record_stands(record))
         return (struct written){ BAD_RECORD, 0, 0 };
-    int number = kind_number(by, record);
+    int number = by->judge(by, record);
     if (number != ACCEPTED)
         return (struct written){ number, 0, 0 };
     page.length = 0;
@@ -971,7 +1034,7 @@ struct answer second_fields_by(const struct profile *by, const uint8_t *message,
             fields[r.lines[i].field] = (struct stretch){ r.lines[i].start + start, r.lines[i].length - start };
         }
     fields[by->fields + 1] = (struct stretch){ 0, r.lines[0].length };
-    fields[by->fields + 2] = (struct stretch){ r.lines[1].start, r.lines[1].length };
+    fields[by->fields + 2] = (struct stretch){ r.lines[member_line(by)].start, r.lines[member_line(by)].length };
     return answer;
 }
 

@@ -2,47 +2,21 @@
  *
  *   list            messages under lines `# name`; one line each:
  *                   name number line kind MAST buyer seller price par
- *   list --lister   the desk's lister: standard input is a batch
+ *                   or of an MT509: name number line status MAST LIST RELA reasons
+ *   list --lister   the desk's lister, or the list of answers: standard input is a batch
  *   list --plain    each message's plain form under its name line, nothing where it is refused
  *   list --fields   name, then offset:length for every field
  *   list --twice    as without, and each message is put through everything else:
  *                   plain form, plain form of the plain form, write, field, batch, and
  *                   buffers one byte short; prints only what does not agree
  *
- * By our own profile; with --pool before all else by the pool's, which has no lister.
+ * By our own profile; with --pool before all else by the pool's, which has no lister; with --mt509 as MT509.
  */
 #include "second.h"
 
 #include <string.h>
 
 static uint8_t input[1 << 22];
-
-/* Of a record, what is printed. */
-struct columns { int kind; const struct text *mast, *buyer, *seller; const struct amount *price, *par; };
-
-static struct columns our_columns(const union any_record *record)
-{
-    const struct record *r = &record->mt515;
-    return (struct columns){ r->kind, &r->mast, &r->buyer.code, &r->seller.code, &r->price.amount, &r->par.amount };
-}
-
-static struct columns pool_columns(const union any_record *record)
-{
-    const struct pool_record *r = &record->pool;
-    return (struct columns){ r->kind, &r->mast, &r->buyer.code, &r->seller.code, &r->price.amount, &r->par.amount };
-}
-
-/* By which profile, and what is known of it here. */
-static const struct known {
-    const struct profile *profile;
-    struct columns (*columns)(const union any_record *record);
-    unsigned fields;
-    size_t longest;
-    unsigned amounts[3];         /* fields that the plain form may change */
-} ours = { &second_mt515, our_columns, FIELDS, LONGEST_WRITTEN, { 9, 18, 0 } },
-  pools = { &second_pool, pool_columns, FIELDS_OF_POOL, LONGEST_OF_POOL, { 8, 9, 16 } };
-
-static const struct known *by = &ours;
 
 /* ---------------------------------------------------------------- printing */
 
@@ -61,28 +35,67 @@ static void print_amount(const struct amount *amount)
     printf(" %s", text);
 }
 
+static void print_trade(struct answer answer, int kind, const struct text *mast, const struct text *buyer, const struct text *seller,
+                        const struct amount *price, const struct amount *par)
+{
+    if (answer.number != ACCEPTED) {
+        fputs(" - - - - - -", stdout);
+        return;
+    }
+    printf(" %s", second_kind_text(kind));
+    print_text(mast);
+    print_text(buyer);
+    print_text(seller);
+    print_amount(price);
+    print_amount(par);
+}
+
+static void our_columns(struct answer answer, const union any_record *record)
+{
+    const struct record *r = &record->mt515;
+    print_trade(answer, r->kind, &r->mast, &r->buyer.code, &r->seller.code, &r->price.amount, &r->par.amount);
+}
+
+static void pool_columns(struct answer answer, const union any_record *record)
+{
+    const struct pool_record *r = &record->pool;
+    print_trade(answer, r->kind, &r->mast, &r->buyer.code, &r->seller.code, &r->price.amount, &r->par.amount);
+}
+
+static void mt509_columns(struct answer answer, const union any_record *record)
+{
+    second_answers_columns(stdout, answer, &record->mt509);
+}
+
+/* By which type or profile, and what is known of it here. */
+static const struct known {
+    const char *option;
+    const struct profile *profile;
+    void (*columns)(struct answer answer, const union any_record *record);    /* printed behind a message's number and line */
+    void (*lister)(FILE *out, const uint8_t *input, size_t length);
+    unsigned fields;
+    size_t longest;
+    unsigned amounts[3];         /* fields that the plain form may change */
+} known[] = {
+    { "", &second_mt515, our_columns, second_lister, FIELDS, LONGEST_WRITTEN, { 9, 18, 0 } },
+    { "--pool", &second_pool, pool_columns, NULL, FIELDS_OF_POOL, LONGEST_OF_POOL, { 8, 9, 16 } },
+    { "--mt509", &second_mt509, mt509_columns, second_answers, FIELDS_OF_MT509, LONGEST_OF_MT509, { 0, 0, 0 } },
+};
+
+static const struct known *by = &known[0];
+
 static void print_message(const uint8_t *name, size_t wide, const uint8_t *message, size_t length)
 {
     union any_record record;
     struct answer answer = second_read_by(by->profile, message, length, &record);
     printf("%.*s %d %zu", (int)wide, (const char *)name, answer.number, answer.line);
-    if (answer.number != ACCEPTED) {
-        fputs(" - - - - - -\n", stdout);
-        return;
-    }
-    struct columns columns = by->columns(&record);
-    printf(" %s", second_kind_text(columns.kind));
-    print_text(columns.mast);
-    print_text(columns.buyer);
-    print_text(columns.seller);
-    print_amount(columns.price);
-    print_amount(columns.par);
+    by->columns(answer, &record);
     putchar('\n');
 }
 
 static void print_plain(const uint8_t *name, size_t wide, const uint8_t *message, size_t length)
 {
-    uint8_t plain[LONGEST_WRITTEN];
+    uint8_t plain[LONGEST_OF_MT509];
     struct written p = second_plain_by(by->profile, message, length, plain, by->longest);
     printf("# %.*s\n", (int)wide, (const char *)name);
     fwrite(plain, 1, p.length, stdout);
@@ -158,7 +171,7 @@ static void fields_twice(const uint8_t *name, size_t wide, const uint8_t *messag
 
 static void print_twice(const uint8_t *name, size_t wide, const uint8_t *message, size_t length)
 {
-    enum { ROOM = 1000 };
+    enum { ROOM = LONGEST_OF_MT509 + 100 };
     union any_record record, again, blank;
     uint8_t plain[ROOM], second[ROOM];
     struct answer answer = read_all(message, length, &record);
@@ -215,24 +228,25 @@ typedef void print(const uint8_t *name, size_t wide, const uint8_t *message, siz
 
 int main(int count, char **words)
 {
-    if (count > 1 && strcmp(words[1], "--pool") == 0) {
-        by = &pools;
-        count--;
-        words++;
-    }
+    for (size_t k = 1; k < sizeof known / sizeof known[0]; k++)
+        if (count > 1 && by == &known[0] && strcmp(words[1], known[k].option) == 0) {
+            by = &known[k];
+            count--;
+            words++;
+        }
     const char *option = count > 1 ? words[1] : "";
     int lister = strcmp(option, "--lister") == 0;
     print *print_one = strcmp(option, "--twice") == 0 ? print_twice
                      : strcmp(option, "--plain") == 0 ? print_plain
                      : strcmp(option, "--fields") == 0 ? print_fields
                      : print_message;
-    if (count > 2 || (count == 2 && !lister && print_one == print_message) || (lister && by == &pools)) {
-        fputs("usage: list [--lister | [--pool] [--plain | --fields | --twice]] < input\n", stderr);
+    if (count > 2 || (count == 2 && !lister && print_one == print_message) || (lister && !by->lister)) {
+        fputs("usage: list [--pool | --mt509] [--lister | --plain | --fields | --twice] < input\n", stderr);
         return 2;
     }
     size_t length = fread(input, 1, sizeof input, stdin);
     if (lister) {
-        second_lister(stdout, input, length);
+        by->lister(stdout, input, length);
         return 0;
     }
     if (length == sizeof input) {

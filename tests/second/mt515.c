@@ -15,7 +15,7 @@ static const struct slot our_slots[] = {
     OPEN(GENL, ":16R:LINK", 0, ANY_NUMBER, LINK),
     CLOSE(GENL, ":16S:GENL"),
 
-    { LINK, { ":20C::MAST", ":20C::PREV", ":20C::LIST" }, false, 1, 1, NO_BLOCK, false, 4, "//", TEXT, 1, 16 },
+    CHOICE(LINK, 4, "//", 1, 16, ":20C::MAST", ":20C::PREV", ":20C::LIST"),
     CLOSE(LINK, ":16S:LINK"),
 
     LINE(CONFDET, ":98C::TRAD", 1, 7, "//", MOMENT, 0, 0),
@@ -31,7 +31,7 @@ static const struct slot our_slots[] = {
     LINE(CONFDET, ":70E::TPRO", 1, 21, "//GSCC/", NARRATIVE, 0, 0),
     CLOSE(CONFDET, ":16S:CONFDET"),
 
-    { CONFPRTY, { ":95R::BUYR", ":95R::SELL", NULL }, false, 1, 1, NO_BLOCK, false, 12, "/GSCC/PART", TEXT, 4, 4 },
+    CHOICE(CONFPRTY, 12, "/GSCC/PART", 4, 4, ":95R::BUYR", ":95R::SELL"),
     LINE(CONFPRTY, ":20C::PROC", 0, 13, "//", TEXT, 1, 16),
     LINE(CONFPRTY, ":70C::PACO", 0, 14, "//GSCC/TDID", TEXT, 1, 20),
     CLOSE(CONFPRTY, ":16S:CONFPRTY"),
@@ -106,11 +106,6 @@ static int our_read_narrative(const uint8_t *at, size_t length, void *read)
 
 /* ---------------------------------------------------------------- writing a record */
 
-static bool moment_is_zero(const struct moment *moment)
-{
-    return date_is_zero(&moment->date) && moment->time.hour == 0 && moment->time.minute == 0 && moment->time.second == 0;
-}
-
 static bool our_party_stands(const struct party *party)
 {
     return text_stands(&party->code, 4, 4)
@@ -125,8 +120,7 @@ static bool our_record_stands(const void *written)
         && text_stands(&record->password, 0, 12)
         && text_stands(&record->sender, 1, 8)
         && text_stands(&record->reference, 1, 16)
-        && (record->prep_present == 0 ? moment_is_zero(&record->prep)
-            : record->prep_present == 1 && moment_stands(&record->prep))
+        && optional_moment_stands(record->prep_present, &record->prep)
         && optional_text_stands(&record->mast, 1, 16)
         && optional_text_stands(&record->prev, 1, 16)
         && optional_text_stands(&record->list, 1, 16)
@@ -216,12 +210,13 @@ static size_t our_put_message(struct page *page, const void *written)
 /* ---------------------------------------------------------------- the profile */
 
 const struct profile second_mt515 = {
-    .header = { "515/000/GSCC", "MBSCTRRS" },
+    .header = { NULL, "515/000/GSCC", "MBSCTRRS" },
     .slots = our_slots,
     .slot_count = sizeof our_slots / sizeof our_slots[0],
     .fields = FIELDS,
-    .party_fields = 3,
+    .block_fields = 3,
     .places = our_places,
+    .functions = trade_functions,
     .rules = our_rules,
     .rule_count = sizeof our_rules / sizeof our_rules[0],
     .record_size = sizeof(struct record),
@@ -231,6 +226,8 @@ const struct profile second_mt515 = {
     .trade = AT(trade),
     .settlement = AT(settlement),
     .par = AT(par),
+    .function_stands = function_of_kind,
+    .judge = kind_number,
     .read_narrative = our_read_narrative,
     .record_stands = our_record_stands,
     .put_message = our_put_message,

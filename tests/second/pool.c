@@ -14,7 +14,7 @@ static const struct slot pool_slots[] = {
     OPEN(GENL, ":16R:LINK", 0, ANY_NUMBER, LINK),
     CLOSE(GENL, ":16S:GENL"),
 
-    { LINK, { ":20C::MAST", ":20C::PREV", ":20C::LIST" }, false, 1, 1, NO_BLOCK, false, 3, "//", TEXT, 1, 16 },
+    CHOICE(LINK, 3, "//", 1, 16, ":20C::MAST", ":20C::PREV", ":20C::LIST"),
     CLOSE(LINK, ":16S:LINK"),
 
     LINE(CONFDET, ":98C::TRAD", 1, 6, "//", MOMENT, 0, 0),
@@ -31,7 +31,7 @@ static const struct slot pool_slots[] = {
     LINE(CONFDET, ":70E::TPRO", 1, 19, "//DTCY/", NARRATIVE, 0, 0),
     CLOSE(CONFDET, ":16S:CONFDET"),
 
-    { CONFPRTY, { ":95R::BUYR", ":95R::SELL", NULL }, false, 1, 1, NO_BLOCK, false, 12, "/DTCY/PART", TEXT, 4, 4 },
+    CHOICE(CONFPRTY, 12, "/DTCY/PART", 4, 4, ":95R::BUYR", ":95R::SELL"),
     LINE(CONFPRTY, ":20C::PROC", 0, 13, "//", TEXT, 1, 16),
     CLOSE(CONFPRTY, ":16S:CONFPRTY"),
 
@@ -214,12 +214,13 @@ static size_t pool_put_message(struct page *page, const void *written)
 /* ---------------------------------------------------------------- the profile */
 
 const struct profile second_pool = {
-    .header = { "515/000/DTCY", "MBSCPNET" },
+    .header = { NULL, "515/000/DTCY", "MBSCPNET" },
     .slots = pool_slots,
     .slot_count = sizeof pool_slots / sizeof pool_slots[0],
     .fields = FIELDS_OF_POOL,
-    .party_fields = 2,
+    .block_fields = 2,
     .places = pool_places,
+    .functions = trade_functions,
     .rules = pool_rules,
     .rule_count = sizeof pool_rules / sizeof pool_rules[0],
     .record_size = sizeof(struct pool_record),
@@ -229,6 +230,8 @@ const struct profile second_pool = {
     .trade = AT(trade),
     .settlement = AT(settlement),
     .par = AT(par),
+    .function_stands = function_of_kind,
+    .judge = kind_number,
     .read_narrative = pool_read_narrative,
     .record_stands = pool_record_stands,
     .put_message = pool_put_message,

@@ -4,3 +4,4 @@
 
 #include "mt515.c"
 #include "pool.c"
+#include "mt509.c"
