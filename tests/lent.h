@@ -42,7 +42,7 @@ static inline int verdict(const char *what)
 
 /* ---------------------------------------------------------------- what is lent */
 
-enum { GUARD = 64, MARK = 0xA5, PAGE = 4096, LENDABLE = 3 * PAGE, BUFFER = 1000 };
+enum { GUARD = 64, MARK = 0xA5, PAGE = 4096, LENDABLE = 3 * PAGE, BUFFER = 1600 };
 
 static inline bool all(const uint8_t *bytes, size_t length, uint8_t value)
 {

@@ -3,13 +3,12 @@
  * lent stands between guard bytes, and a message ends just before a page that may not be touched. Says what it tried; the last
  * line says how it went. */
 #define _DEFAULT_SOURCE
-#include "lent.h"
 #include "mt509.h"
 #include "pool.h"
 
-enum { LINKS = 7, MOST_REASONS = 10, LAST_SLOT = MT509_FIELD_TEXT(MOST_REASONS), LONGEST_MADE = 2 * PAGE, WIDE = 1600 };
-
-#define COUNT(list) (sizeof (list) / sizeof (list)[0])
+#define ENTRY(name) mt509_##name
+enum { LINKS = 7, MOST_REASONS = 10, FIELDS = MT509_FIELDS, LAST_SLOT = MT509_FIELD_TEXT(MOST_REASONS), LONGEST = MT509_LONGEST };
+#include "entries.h"
 
 /* ---------------------------------------------------------------- messages */
 
@@ -155,87 +154,7 @@ static const char LEAST_PLAIN[] =
     ":16S:GENL\r\n"
     "-\r\n";
 
-/* ---------------------------------------------------------------- the entries, each called between guards */
-
-struct places { uint8_t before[GUARD]; size_t of[MT509_FIELDS]; uint8_t behind[GUARD]; };
-
-struct read_answer { uint8_t number; size_t line, starts[MT509_FIELDS], ends[MT509_FIELDS]; };
-
-static struct read_answer read_message(const void *message, size_t length)
-{
-    struct places starts, ends;
-    struct number line;
-    struct read_answer answer;
-    const uint8_t *lent = lend(message, length);
-    MARKED(starts);
-    MARKED(ends);
-    MARKED(line);
-    answer.number = mt509_read(lent, length, starts.of, ends.of, &line.value);
-    GUARDED(starts, length);
-    GUARDED(ends, length);
-    GUARDED(line, length);
-    want(stands(lent, message, length), "read changed the message", length);
-    answer.line = line.value;
-    memcpy(answer.starts, starts.of, sizeof answer.starts);
-    memcpy(answer.ends, ends.of, sizeof answer.ends);
-    return answer;
-}
-
-struct field_answer { uint8_t number; size_t offset, count; };
-
-static struct field_answer field_of(const void *message, size_t length, size_t slot)
-{
-    struct number offset, count;
-    const uint8_t *lent = lend(message, length);
-    MARKED(offset);
-    MARKED(count);
-    uint8_t number = mt509_field(lent, length, slot, &offset.value, &count.value);
-    GUARDED(offset, slot);
-    GUARDED(count, slot);
-    want(stands(lent, message, length), "field changed the message", slot);
-    return (struct field_answer){ number, offset.value, count.value };
-}
-
-/* A buffer between guards that takes the longest of these, which lent.h's does not. */
-struct wide { uint8_t before[GUARD], bytes[WIDE], behind[GUARD]; };
-
-static struct written plain_of(const void *message, size_t length, struct wide *out, size_t room)
-{
-    struct number line, written;
-    const uint8_t *lent = lend(message, length);
-    MARKED(*out);
-    MARKED(line);
-    MARKED(written);
-    uint8_t number = mt509_plain(lent, length, out->bytes, room, &line.value, &written.value);
-    GUARDED(*out, room);
-    GUARDED(line, room);
-    GUARDED(written, room);
-    want(stands(lent, message, length), "plain changed the message", room);
-    struct written w = { number, line.value, written.value };
-    size_t from = number == MT515_ACCEPTED ? w.length : 0;
-    want(number == MT515_ACCEPTED || w.length == 0, "a length beside a refusal", room);
-    want(w.length <= room, "more was written than there is room", room);
-    want(from <= WIDE && all(out->bytes + from, WIDE - from, MARK), "a byte changed that must stand", room);
-    return w;
-}
-
-struct next_answer { uint8_t found, number; size_t line, next; };
-
-static struct next_answer next_of(const void *batch, size_t length, size_t position)
-{
-    struct number line, next;
-    struct byte number;
-    const uint8_t *lent = lend(batch, length);
-    MARKED(line);
-    MARKED(next);
-    MARKED(number);
-    uint8_t found = mt509_next(lent, length, position, &line.value, &next.value, &number.value);
-    GUARDED(line, position);
-    GUARDED(next, position);
-    GUARDED(number, position);
-    want(stands(lent, batch, length), "next changed the batch", position);
-    return (struct next_answer){ found, number.value, line.value, next.value };
-}
+/* ---------------------------------------------------------------- the other types */
 
 /* The readings of the MT515 in both profiles: `MBSCTRRS` is a good sender, so what they refuse is the line behind it. */
 static void others_refuse(const void *message, size_t length)
@@ -246,46 +165,6 @@ static void others_refuse(const void *message, size_t length)
     want(number == MT515_HEADER && line == 3, "the MT515's reading of an MT509", number);
     number = pool_read(lend(message, length), length, starts, ends, &line);
     want(number == MT515_HEADER && line == 3, "the pool's reading of an MT509", number);
-}
-
-/* ---------------------------------------------------------------- changes to a message */
-
-/* Lines from a first to a last, counted from 1 before any change, and what stands there instead, with its own endings. */
-struct change { size_t first, last; const char *text; };
-
-enum { MOST_CHANGES = 6 };
-
-/* A message with some changes, as a string. */
-static size_t changed(char out[LONGEST_MADE], const char *message, const struct change changes[MOST_CHANGES])
-{
-    size_t length = 0, line = 1;
-    for (const char *at = message, *end; *at; at = end, line++) {
-        end = strchr(at, '\n') + 1;
-        const char *text = at;
-        size_t wide = (size_t)(end - at);
-        for (size_t i = 0; i < MOST_CHANGES; i++)
-            if (line >= changes[i].first && line <= changes[i].last) {
-                text = changes[i].text;
-                wide = line == changes[i].first ? strlen(text) : 0;
-            }
-        memcpy(out + length, text, wide);
-        length += wide;
-    }
-    out[length] = 0;
-    return length;
-}
-
-/* A message that has LF endings, with CR LF. */
-static size_t with_crlf(char out[LONGEST_MADE], const char *message)
-{
-    size_t length = 0;
-    for (; *message; message++) {
-        if (*message == '\n')
-            out[length++] = '\r';
-        out[length++] = *message;
-    }
-    out[length] = 0;
-    return length;
 }
 
 /* ---------------------------------------------------------------- where the fields of an accepted message stand */
@@ -306,16 +185,6 @@ static const char *const before[] = {
     [MT509_FIELD_CODE(1)] = ":24B::REJT/GSCC/",
     [MT509_FIELD_TEXT(1)] = ":70D::REAS//",
 };
-
-struct span { size_t from, to; };
-
-/* From a place to the end of its line. */
-static struct span rest_of_line(const char *message, size_t from)
-{
-    return (struct span){ from, from + strcspn(message + from, "\r\n") };
-}
-
-static bool begins(const char *line, const char *text) { return strncmp(line, text, strlen(text)) == 0; }
 
 static const char *next_line(const char *at) { return strchr(at, '\n') + 1; }
 
@@ -351,82 +220,8 @@ static void places_are(const char *message, const struct read_answer *a, const c
     want(a->ends[MT509_FIELD_RECEIVER] == receiver.to, "read: where the receiver ends", receiver.to);
 }
 
-/* ---------------------------------------------------------------- one message, by every entry */
-
-/* Every number up to 40, and some beyond, against what was read: 32 and 33 are password and receiver to mt509_read alone. */
-static void fields_are_what_is_read(const void *message, size_t length, const struct read_answer *a)
-{
-    static const size_t none[] = { 255, 256, 257, 287, 65537, 4294967297u, SIZE_MAX - 30, SIZE_MAX };
-    for (size_t slot = 0; slot <= 40; slot++) {
-        struct field_answer f = field_of(message, length, slot);
-        bool named = slot >= 1 && slot <= LAST_SLOT;
-        want(f.number == a->number, "field: the number", slot);
-        want(f.offset == (named ? a->starts[slot] : 0), "field: the offset", slot);
-        want(f.count == (named ? a->ends[slot] - a->starts[slot] : 0), "field: the count", slot);
-    }
-    for (size_t i = 0; i < COUNT(none); i++) {
-        struct field_answer f = field_of(message, length, none[i]);
-        want(f.number == a->number && f.offset == 0 && f.count == 0, "a number that names no slot", none[i]);
-    }
-}
-
-/* An accepted message has a plain form, which is its own plain form in turn; without room it gets 19. */
-static void has_plain_form(const char *message, size_t length)
-{
-    struct wide once, twice;
-    struct written w = plain_of(message, length, &once, WIDE);
-    want(w.length > 0 && w.length <= MT509_LONGEST, "plain: its length", w.length);
-    if (w.length > MT509_LONGEST)
-        return;
-    struct written again = plain_of(once.bytes, w.length, &twice, w.length);
-    want(again.number == MT515_ACCEPTED && again.length == w.length, "plain: not accepted in its turn", again.number);
-    want(memcmp(once.bytes, twice.bytes, w.length) == 0, "plain: not its own plain form", w.length);
-    w = plain_of(message, length, &once, 0);
-    want(w.number == MT515_ROOM && w.line == 0, "plain: no room", w.number);
-}
-
-/* Number and line of a message. Beside a refusal nothing stands anywhere; 19 comes after all else. */
-static void message_wants(const void *message, size_t length, uint8_t number, size_t line, const char *what)
-{
-    struct read_answer a = read_message(message, length);
-    want(a.number == number, what, a.number);
-    want(a.line == line, what, a.line);
-    for (size_t i = 0; number != MT515_ACCEPTED && i < MT509_FIELDS; i++)
-        want(a.starts[i] == 0 && a.ends[i] == 0, "a place beside a refusal", i);
-    fields_are_what_is_read(message, length, &a);
-
-    struct wide out;
-    struct written w = plain_of(message, length, &out, WIDE);
-    want(w.number == number && w.line == line, "plain answers another number or line", length);
-    if (number != MT515_ACCEPTED) {
-        w = plain_of(message, length, &out, 0);
-        want(w.number == number && w.line == line, "plain without room answers another number or line", length);
-    }
-}
-
-/* The same of a message whose only `-` line is the last: it is also a batch of one, and if its header is an MT509's the entries of
- * the MT515 refuse it. */
-static void whole_wants(const char *message, size_t length, uint8_t number, size_t line, const char *what)
-{
-    message_wants(message, length, number, line, what);
-    struct next_answer n = next_of(message, length, 0);
-    want(n.found == MT515_MESSAGE && n.number == number && n.line == line, "next answers another number or line", length);
-    want(n.next == length, "next ends elsewhere", n.next);
-    if (number == MT515_ACCEPTED) {
-        struct read_answer a = read_message(message, length);
-        places_are(message, &a, what);
-        has_plain_form(message, length);
-    }
-    if (number == MT515_ACCEPTED || number > MT515_HEADER)
-        others_refuse(message, length);
-}
-
 /* ---------------------------------------------------------------- worked cases */
 
-struct worked { const char *what; uint8_t number; size_t line; struct change changes[MOST_CHANGES]; };
-
-#define LINE(number, text) { number, number, text "\n" }
-#define GONE(first, last) { first, last, "" }
 #define FUNCTION(word) LINE(7, ":23G:" word)
 #define PREP(value) LINE(8, ":98C::PREP//" value)
 #define STATUS(value) LINE(19, ":25D::" value)
@@ -557,18 +352,6 @@ static const struct worked of_sections[] = {
     { "14 before 15", 14, 0, { FUNCTION("CAST/COPY"), STATUS("CPRC//REJT"), NO_REAS } },
 };
 
-/* Each case with LF and with CR LF. */
-static void cases_want(const struct worked *cases, size_t count)
-{
-    char lf[LONGEST_MADE], crlf[LONGEST_MADE];
-    for (size_t i = 0; i < count; i++) {
-        size_t length = changed(lf, R, cases[i].changes);
-        whole_wants(lf, length, cases[i].number, cases[i].line, cases[i].what);
-        length = with_crlf(crlf, lf);
-        whole_wants(crlf, length, cases[i].number, cases[i].line, cases[i].what);
-    }
-}
-
 /* Of B and P line 2 is the sender; of an MT515 that MBSCTRRS sends, line 3 tells. */
 static void worked_cases(void)
 {
@@ -576,9 +359,9 @@ static void worked_cases(void)
     char made[LONGEST_MADE];
     heading("the worked cases of the page, with LF and with CR LF, by every entry");
     want(COUNT(of_page) == 44, "the rows of the page's table", COUNT(of_page));
-    cases_want(of_page, COUNT(of_page));
+    cases_want(R, of_page, COUNT(of_page));
     heading("the page's other sentences on lines and their order, likewise; messages of the MT515");
-    cases_want(of_sections, COUNT(of_sections));
+    cases_want(R, of_sections, COUNT(of_sections));
     message_wants(B, sizeof B - 1, MT515_HEADER, 2, "B");
     message_wants(P, sizeof P - 1, MT515_HEADER, 2, "P");
     message_wants(made, changed(made, B, sent), MT515_HEADER, 3, "B that MBSCTRRS sends");
@@ -736,10 +519,10 @@ static void value_wants(const struct spot *spot, const char *value, size_t width
     size_t place, length = with_value(message, spot, value, width, &place);
     whole_wants(message, length, number, number == MT515_ACCEPTED ? 0 : spot->at, spot->before);
     if (number == MT515_ACCEPTED && width > 0) {
-        struct wide out;
-        struct written w = plain_of(message, length, &out, WIDE);
+        struct buffer out;
+        struct written w = plain_of(message, length, &out, BUFFER);
         bool found = false;
-        for (size_t i = 0; i + width <= w.length && w.length <= WIDE; i++)
+        for (size_t i = 0; i + width <= w.length && w.length <= BUFFER; i++)
             found |= memcmp(out.bytes + i, value, width) == 0;
         want(found, "plain: a value is not in it", width);
     }
@@ -880,7 +663,7 @@ static size_t linked(char out[LONGEST_MADE], const char *message, const char *en
 static void linked_in_any_order(void)
 {
     char message[LONGEST_MADE], plain[LONGEST_MADE];
-    struct wide out;
+    struct buffer out;
     heading("LINK: each set of the seven in 42 orders, and the one order of the plain form");
     for (unsigned set = 0; set < 1 << LINKS; set++) {
         size_t wanted = linked(plain, R_PLAIN, "\r\n", set, 0, 1);
@@ -890,7 +673,7 @@ static void linked_in_any_order(void)
                 struct read_answer a = read_message(message, length);
                 want(a.number == MT515_ACCEPTED && a.line == 0, "LINKs: number and line", set);
                 places_are(message, &a, "LINKs: a place");
-                struct written w = plain_of(message, length, &out, WIDE);
+                struct written w = plain_of(message, length, &out, BUFFER);
                 want(w.number == MT515_ACCEPTED && w.line == 0 && w.length == wanted, "LINKs: the plain form's length", set);
                 want(memcmp(out.bytes, plain, wanted) == 0, "LINKs: the plain form", set);
             }
@@ -941,18 +724,6 @@ static void reasons(void)
 }
 
 /* ---------------------------------------------------------------- fields */
-
-/* What each slot of a message says; nothing where the message does not have it. */
-static void values_are(const char *message, const char *const values[LAST_SLOT + 1])
-{
-    struct read_answer a = read_message(message, strlen(message));
-    want(a.number == MT515_ACCEPTED && a.line == 0, "fields: number and line", a.number);
-    for (size_t slot = 1; slot <= LAST_SLOT; slot++) {
-        const char *value = values[slot] ? values[slot] : "";
-        size_t wide = strlen(value), from = a.starts[slot];
-        want(a.ends[slot] == from + wide && from <= strlen(message) && begins(message + from, value), "a value", slot);
-    }
-}
 
 /* The page tells of R with CR LF where its fields stand. */
 static void page_places(void)
@@ -1031,20 +802,6 @@ static void fields(void)
 
 /* ---------------------------------------------------------------- plain form */
 
-/* With every room from 0 to one past the length. */
-static void every_room(const char *message, const char *plain, const char *what)
-{
-    size_t length = strlen(plain);
-    struct wide out;
-    for (size_t room = 0; room <= length + 1; room++) {
-        uint8_t number = room < length ? MT515_ROOM : MT515_ACCEPTED;
-        struct written w = plain_of(message, strlen(message), &out, room);
-        want(w.number == number && w.line == 0 && w.length == (number ? 0 : length), what, room);
-        for (size_t i = 0; number == MT515_ACCEPTED && i < length; i++)
-            want(out.bytes[i] == (uint8_t)plain[i], "plain: a byte", i);
-    }
-}
-
 static void rooms(void)
 {
     static const struct change turned[MOST_CHANGES] = {
@@ -1088,11 +845,11 @@ static void plain_cases(void)
         { "an issuer", { STATUS("IPRC/GSCC/MODA"), NO_REAS }, { { 19, 19, ":25D::IPRC/GSCC/MODA\r\n" }, NO_REAS } },
     };
     char message[LONGEST_MADE], plain[LONGEST_MADE];
-    struct wide out;
+    struct buffer out;
     heading("plain form: what becomes of the endings, and that all else stays");
     for (size_t i = 0; i < COUNT(cases); i++) {
         size_t length = changed(message, R, cases[i].of_R), wanted = changed(plain, R_PLAIN, cases[i].of_plain);
-        struct written w = plain_of(message, length, &out, WIDE);
+        struct written w = plain_of(message, length, &out, BUFFER);
         want(w.number == MT515_ACCEPTED && w.line == 0 && w.length == wanted, cases[i].what, w.length);
         want(memcmp(out.bytes, plain, wanted) == 0, cases[i].what, i);
     }
@@ -1106,7 +863,7 @@ static void widest_by_status(void)
         { 71, 71, ":16S:REAS\r\n" WIDE_REAS("E011", "the eleventh is one more than stand") },
     };
     char message[LONGEST_MADE], of_status[64];
-    struct wide out;
+    struct buffer out;
     heading("plain form: the widest of each status");
     for (size_t i = 0; i <= COUNT(statuses); i++) {
         const char *status = i < COUNT(statuses) ? statuses[i] : "CPRC//CAND";
@@ -1137,14 +894,6 @@ static void widest_by_status(void)
 }
 
 /* ---------------------------------------------------------------- batch */
-
-static void next_wants(const char *batch, size_t length, size_t position, struct next_answer wanted)
-{
-    struct next_answer a = next_of(batch, length, position);
-    want(a.found == wanted.found, "next: what is found", position);
-    want(a.number == wanted.number && a.line == wanted.line, "next: number and line", position);
-    want(a.next == wanted.next, "next: the position", position);
-}
 
 /* Answers, accepted and refused, messages of the MT515 among them, and at the end a piece without an end. */
 static void batch(void)
@@ -1190,14 +939,7 @@ static void batch(void)
     /* a batch that is cut inside its first message */
     next_wants(bytes, start[1] - 1, 0, (struct next_answer){ MT515_MESSAGE, 3, 29, start[1] - 1 });
     next_wants(bytes, end, end - 1, (struct next_answer){ MT515_MESSAGE, 3, 1, end });
-
-    static const size_t beyond[] = { 1, 2, 100, 4294967296u, SIZE_MAX / 2 };
-    next_wants(bytes, end, end, (struct next_answer){ MT515_DONE, 0, 0, end });
-    for (size_t i = 0; i < COUNT(beyond); i++)
-        next_wants(bytes, end, end + beyond[i], (struct next_answer){ MT515_BEYOND, MT515_PAST, 0, end + beyond[i] });
-    next_wants(bytes, end, SIZE_MAX, (struct next_answer){ MT515_BEYOND, MT515_PAST, 0, SIZE_MAX });
-    next_wants("", 0, 0, (struct next_answer){ MT515_DONE, 0, 0, 0 });
-    next_wants("", 0, 1, (struct next_answer){ MT515_BEYOND, MT515_PAST, 0, 1 });
+    behind_batch(bytes, end);
 }
 
 int main(void)

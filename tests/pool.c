@@ -2,12 +2,11 @@
  * prints: P, its fields and its plain form, the widest messages, and all its worked cases. What is lent stands between guard bytes,
  * and a message ends just before a page that may not be touched. Says what it tried; the last line says how it went. */
 #define _DEFAULT_SOURCE
-#include "lent.h"
 #include "pool.h"
 
-enum { LAST_SLOT = POOL_FIELD_NARRATIVE, LONGEST_MADE = 2 * PAGE };
-
-#define COUNT(list) (sizeof (list) / sizeof (list)[0])
+#define ENTRY(name) pool_##name
+enum { FIELDS = POOL_FIELDS, LAST_SLOT = POOL_FIELD_NARRATIVE, LONGEST = POOL_LONGEST };
+#include "entries.h"
 
 /* ---------------------------------------------------------------- messages */
 
@@ -152,129 +151,15 @@ static const char DK_PLAIN[] =
     ":16S:CONFDET\r\n"
     "-\r\n";
 
-/* ---------------------------------------------------------------- the entries, each called between guards */
-
-struct places { uint8_t before[GUARD]; size_t of[POOL_FIELDS]; uint8_t behind[GUARD]; };
-
-struct read_answer { uint8_t number; size_t line, starts[POOL_FIELDS], ends[POOL_FIELDS]; };
-
-static struct read_answer read_message(const void *message, size_t length)
-{
-    struct places starts, ends;
-    struct number line;
-    struct read_answer answer;
-    const uint8_t *lent = lend(message, length);
-    MARKED(starts);
-    MARKED(ends);
-    MARKED(line);
-    answer.number = pool_read(lent, length, starts.of, ends.of, &line.value);
-    GUARDED(starts, length);
-    GUARDED(ends, length);
-    GUARDED(line, length);
-    want(stands(lent, message, length), "read changed the message", length);
-    answer.line = line.value;
-    memcpy(answer.starts, starts.of, sizeof answer.starts);
-    memcpy(answer.ends, ends.of, sizeof answer.ends);
-    return answer;
-}
-
-struct field_answer { uint8_t number; size_t offset, count; };
-
-static struct field_answer field_of(const void *message, size_t length, size_t slot)
-{
-    struct number offset, count;
-    const uint8_t *lent = lend(message, length);
-    MARKED(offset);
-    MARKED(count);
-    uint8_t number = pool_field(lent, length, slot, &offset.value, &count.value);
-    GUARDED(offset, slot);
-    GUARDED(count, slot);
-    want(stands(lent, message, length), "field changed the message", slot);
-    return (struct field_answer){ number, offset.value, count.value };
-}
-
-static struct written plain_of(const void *message, size_t length, struct buffer *out, size_t room)
-{
-    struct number line, written;
-    const uint8_t *lent = lend(message, length);
-    MARKED(*out);
-    MARKED(line);
-    MARKED(written);
-    uint8_t number = pool_plain(lent, length, out->bytes, room, &line.value, &written.value);
-    GUARDED(*out, room);
-    GUARDED(line, room);
-    GUARDED(written, room);
-    want(stands(lent, message, length), "plain changed the message", room);
-    struct written w = { number, line.value, written.value };
-    untouched(out, w, room);
-    return w;
-}
-
-struct next_answer { uint8_t found, number; size_t line, next; };
-
-static struct next_answer next_of(const void *batch, size_t length, size_t position)
-{
-    struct number line, next;
-    struct byte number;
-    const uint8_t *lent = lend(batch, length);
-    MARKED(line);
-    MARKED(next);
-    MARKED(number);
-    uint8_t found = pool_next(lent, length, position, &line.value, &next.value, &number.value);
-    GUARDED(line, position);
-    GUARDED(next, position);
-    GUARDED(number, position);
-    want(stands(lent, batch, length), "next changed the batch", position);
-    return (struct next_answer){ found, number.value, line.value, next.value };
-}
+/* ---------------------------------------------------------------- the other types */
 
 /* The MT515's reading. */
-static void mt515_refuses(const void *message, size_t length, const char *what)
+static void others_refuse(const void *message, size_t length)
 {
     uint8_t record[MT515_RECORD];
     size_t line;
     uint8_t number = mt515_read(lend(message, length), length, record, &line);
-    want(number == MT515_HEADER && line == 3, what, number);
-}
-
-/* ---------------------------------------------------------------- changes to a message */
-
-/* A line, counted from 1 before any change, and what stands there instead, with its own endings. */
-struct change { size_t line; const char *text; };
-
-enum { MOST_CHANGES = 9 };
-
-/* A message with some changes, as a string. */
-static size_t changed(char out[LONGEST_MADE], const char *message, const struct change changes[MOST_CHANGES])
-{
-    size_t length = 0, line = 1;
-    for (const char *at = message, *end; *at; at = end, line++) {
-        end = strchr(at, '\n') + 1;
-        const char *text = at;
-        size_t wide = (size_t)(end - at);
-        for (size_t i = 0; i < MOST_CHANGES; i++)
-            if (changes[i].line == line) {
-                text = changes[i].text;
-                wide = strlen(text);
-            }
-        memcpy(out + length, text, wide);
-        length += wide;
-    }
-    out[length] = 0;
-    return length;
-}
-
-/* A message that has LF endings, with CR LF. */
-static size_t with_crlf(char out[LONGEST_MADE], const char *message)
-{
-    size_t length = 0;
-    for (; *message; message++) {
-        if (*message == '\n')
-            out[length++] = '\r';
-        out[length++] = *message;
-    }
-    out[length] = 0;
-    return length;
+    want(number == MT515_HEADER && line == 3, "the MT515's reading of a message of the pool's", number);
 }
 
 /* ---------------------------------------------------------------- where the fields of an accepted message stand */
@@ -301,16 +186,6 @@ static const char *const before[LAST_SLOT + 1] = {
     [POOL_FIELD_POOL] = ":13B::POOL/DTCY/",
     [POOL_FIELD_NARRATIVE] = ":70E::TPRO//DTCY/",
 };
-
-struct span { size_t from, to; };
-
-/* From a place to the end of its line. */
-static struct span rest_of_line(const char *message, size_t from)
-{
-    return (struct span){ from, from + strcspn(message + from, "\r\n") };
-}
-
-static bool begins(const char *line, const char *text) { return strncmp(line, text, strlen(text)) == 0; }
 
 /* The value of a slot: told by what its line begins with; a reference is on the line behind its party's. Empty where there is none. */
 static struct span value_of(const char *message, size_t slot)
@@ -339,98 +214,26 @@ static void places_are(const char *message, const struct read_answer *a, const c
     want(a->starts[POOL_FIELD_SENDER] == sender.from && a->ends[POOL_FIELD_SENDER] == sender.to, "read: the sender", sender.to);
 }
 
-/* ---------------------------------------------------------------- one message, by every entry */
-
-/* Every slot, and numbers that name none, against what was read: 20 and 21 are password and sender to pool_read alone. */
-static void fields_are_what_is_read(const void *message, size_t length, const struct read_answer *a)
-{
-    static const size_t none[] = { 255, 256, 257, 275, 4294967297u, SIZE_MAX - 18, SIZE_MAX };
-    for (size_t slot = 0; slot <= 25; slot++) {
-        struct field_answer f = field_of(message, length, slot);
-        bool named = slot >= 1 && slot <= LAST_SLOT;
-        want(f.number == a->number, "field: the number", slot);
-        want(f.offset == (named ? a->starts[slot] : 0), "field: the offset", slot);
-        want(f.count == (named ? a->ends[slot] - a->starts[slot] : 0), "field: the count", slot);
-    }
-    for (size_t i = 0; i < COUNT(none); i++) {
-        struct field_answer f = field_of(message, length, none[i]);
-        want(f.number == a->number && f.offset == 0 && f.count == 0, "a number that names no slot", none[i]);
-    }
-}
-
-/* An accepted message has a plain form, which is its own plain form in turn; without room it gets 19. */
-static void has_plain_form(const char *message, size_t length)
-{
-    struct buffer once, twice;
-    struct written w = plain_of(message, length, &once, BUFFER);
-    want(w.length > 0 && w.length <= POOL_LONGEST, "plain: its length", w.length);
-    if (w.length > POOL_LONGEST)
-        return;
-    struct written again = plain_of(once.bytes, w.length, &twice, w.length);
-    want(again.number == MT515_ACCEPTED && again.length == w.length, "plain: not accepted in its turn", again.number);
-    want(memcmp(once.bytes, twice.bytes, w.length) == 0, "plain: not its own plain form", w.length);
-    w = plain_of(message, length, &once, 0);
-    want(w.number == MT515_ROOM && w.line == 0, "plain: no room", w.number);
-}
-
-/* Number and line of a message. Beside a refusal nothing stands anywhere; 19 comes after all else. */
-static void message_wants(const void *message, size_t length, uint8_t number, size_t line, const char *what)
-{
-    struct read_answer a = read_message(message, length);
-    want(a.number == number, what, a.number);
-    want(a.line == line, what, a.line);
-    for (size_t i = 0; number != MT515_ACCEPTED && i < POOL_FIELDS; i++)
-        want(a.starts[i] == 0 && a.ends[i] == 0, "a place beside a refusal", i);
-    fields_are_what_is_read(message, length, &a);
-
-    struct buffer out;
-    struct written w = plain_of(message, length, &out, BUFFER);
-    want(w.number == number && w.line == line, "plain answers another number or line", length);
-    if (number != MT515_ACCEPTED) {
-        w = plain_of(message, length, &out, 0);
-        want(w.number == number && w.line == line, "plain without room answers another number or line", length);
-    }
-}
-
-/* The same of a message whose only `-` line is the last: it is also a batch of one, and if its header is the pool's the MT515's
- * entries refuse it. */
-static void whole_wants(const char *message, size_t length, uint8_t number, size_t line, const char *what)
-{
-    message_wants(message, length, number, line, what);
-    struct next_answer n = next_of(message, length, 0);
-    want(n.found == MT515_MESSAGE && n.number == number && n.line == line, "next answers another number or line", length);
-    want(n.next == length, "next ends elsewhere", n.next);
-    if (number == MT515_ACCEPTED) {
-        struct read_answer a = read_message(message, length);
-        places_are(message, &a, what);
-        has_plain_form(message, length);
-    }
-    if (number == MT515_ACCEPTED || number > MT515_HEADER)
-        mt515_refuses(message, length, "the MT515's reading of a message of the pool's");
-}
-
 /* ---------------------------------------------------------------- worked cases */
 
-struct worked { const char *what; uint8_t number; size_t line; struct change changes[MOST_CHANGES]; };
-
-#define MONEY(value) { 17, ":19A::SETT//" value "\n" }
-#define KIND(word) { 19, ":22F::PROC/DTCY/" word "\n" }
-#define PAR(value) { 27, ":36B::CONF//FAMT/" value "\n" }
-#define NARRATIVE(value) { 32, ":70E::TPRO//DTCY/" value "\n" }
-#define LINKED(line) { 11, ":16S:LINK\n:16R:LINK\n" line "\n:16S:LINK\n" }
-#define NO_LINK { 9, "" }, { 10, "" }, { 11, "" }
-#define CONTRA { 22, ":95R::SELL/DTCY/PART0015\n:20C::PROC//1\n" }
-#define OWN_CONTRA { 25, ":95R::BUYR/DTCY/PART0017\n:20C::PROC//2\n" }
+#define MONEY(value) { 17, 17, ":19A::SETT//" value "\n" }
+#define KIND(word) { 19, 19, ":22F::PROC/DTCY/" word "\n" }
+#define PAR(value) { 27, 27, ":36B::CONF//FAMT/" value "\n" }
+#define NARRATIVE(value) { 32, 32, ":70E::TPRO//DTCY/" value "\n" }
+#define LINKED(line) { 11, 11, ":16S:LINK\n:16R:LINK\n" line "\n:16S:LINK\n" }
+#define NO_LINK GONE(9, 11)
+#define CONTRA LINE(22, ":95R::SELL/DTCY/PART0015\n:20C::PROC//1")
+#define OWN_CONTRA LINE(25, ":95R::BUYR/DTCY/PART0017\n:20C::PROC//2")
 
 /* Section 10 of the page, in its order, but for B, which is no change to P. */
 static const struct worked of_page[] = {
     { "P", 0, 0, { { 0 } } },
-    { "line 3 GSCC", 4, 3, { { 3, "515/000/GSCC\n" } } },
-    { "line 4 MBSCTRRS", 4, 4, { { 4, "MBSCTRRS\n" } } },
-    { "PREP after line 7", 8, 8, { { 7, ":23G:NEWM\n:98C::PREP//20240229093000\n" } } },
-    { "70C after line 22", 8, 23, { { 22, ":95R::SELL/DTCY/PART0015\n:70C::PACO//DTCY/TDIDA\n" } } },
-    { "TRTR with GSCC", 10, 8, { { 8, ":22F::TRTR/GSCC/CASH\n" } } },
-    { "without line 17", 0, 0, { { 17, "" } } },
+    { "line 3 GSCC", 4, 3, { LINE(3, "515/000/GSCC") } },
+    { "line 4 MBSCTRRS", 4, 4, { LINE(4, "MBSCTRRS") } },
+    { "PREP after line 7", 8, 8, { LINE(7, ":23G:NEWM\n:98C::PREP//20240229093000") } },
+    { "70C after line 22", 8, 23, { LINE(22, ":95R::SELL/DTCY/PART0015\n:70C::PACO//DTCY/TDIDA") } },
+    { "TRTR with GSCC", 10, 8, { LINE(8, ":22F::TRTR/GSCC/CASH") } },
+    { "without line 17", 0, 0, { GONE(17, 17) } },
     { "19A USD0,", 0, 0, { MONEY("USD0,") } },
     { "19A USD0012,500", 0, 0, { MONEY("USD0012,500") } },
     { "19A USD", 11, 17, { MONEY("USD") } },
@@ -438,13 +241,13 @@ static const struct worked of_page[] = {
     { "19A USDN1,", 11, 17, { MONEY("USDN1,") } },
     { "19A NUSD1,", 10, 17, { MONEY("NUSD1,") } },
     { "19A EUR1,", 10, 17, { MONEY("EUR1,") } },
-    { "19A twice", 8, 18, { { 17, ":19A::SETT//USD0,00\n:19A::SETT//USD0,00\n" } } },
-    { "lines 16 and 17 exchanged", 9, 16, { { 16, ":19A::SETT//USD0,00\n" }, { 17, ":90A::DEAL//PRCT/99,50\n" } } },
-    { "19A after line 18", 8, 18, { { 17, "" }, { 18, ":22H::BUSE//BUYI\n:19A::SETT//USD0,00\n" } } },
-    { "19A LOCO", 8, 17, { { 17, ":19A::LOCO//USD1,\n" } } },
-    { "without lines 29 to 31", 0, 0, { { 29, "" }, { 30, "" }, { 31, "" } } },
-    { "without line 30", 9, 30, { { 30, "" } } },
-    { "without line 32", 9, 32, { { 32, "" } } },
+    { "19A twice", 8, 18, { LINE(17, ":19A::SETT//USD0,00\n:19A::SETT//USD0,00") } },
+    { "lines 16 and 17 exchanged", 9, 16, { LINE(16, ":19A::SETT//USD0,00"), LINE(17, ":90A::DEAL//PRCT/99,50") } },
+    { "19A after line 18", 8, 18, { GONE(17, 17), LINE(18, ":22H::BUSE//BUYI\n:19A::SETT//USD0,00") } },
+    { "19A LOCO", 8, 17, { LINE(17, ":19A::LOCO//USD1,") } },
+    { "without lines 29 to 31", 0, 0, { GONE(29, 31) } },
+    { "without line 30", 9, 30, { GONE(30, 30) } },
+    { "without line 32", 9, 32, { GONE(32, 32) } },
     { "70E TDSVPOOL", 0, 0, { NARRATIVE("TDSVPOOL") } },
     { "70E TDSVSBOD", 10, 32, { NARRATIVE("TDSVSBOD") } },
     { "70E GUPP", 10, 32, { NARRATIVE("TDSVPOOL/GUPP0") } },
@@ -460,24 +263,24 @@ static const struct worked of_page[] = {
     { "70E DDTE of the year 1", 0, 0, { NARRATIVE("TDSVPOOL/DDTE00010101") } },
     { "70E DKRS in INST", 15, 0, { NARRATIVE("TDSVPOOL/DKRSE004") } },
     { "kind CASE", 10, 19, { KIND("CASE") } },
-    { "kind with GSCC", 10, 19, { { 19, ":22F::PROC/GSCC/INST\n" } } },
+    { "kind with GSCC", 10, 19, { LINE(19, ":22F::PROC/GSCC/INST") } },
     { "CDRQ", 0, 0, { KIND("CDRQ"), NARRATIVE("TDSVPOOL") } },
     { "CDRL", 0, 0, { KIND("CDRL"), NARRATIVE("TDSVPOOL") } },
     { "CDRQ with CDRY", 0, 0, { KIND("CDRQ") } },
     { "CDRQ with LIST", 0, 0, { KIND("CDRQ"), NARRATIVE("TDSVPOOL"), LINKED(":20C::LIST//1") } },
     { "CDRQ with PREV", 15, 0, { KIND("CDRQ"), NARRATIVE("TDSVPOOL"), LINKED(":20C::PREV//1") } },
     { "CDRQ without MAST", 14, 0, { KIND("CDRQ"), NARRATIVE("TDSVPOOL"), NO_LINK } },
-    { "CDRQ with 23G CANC", 13, 0, { KIND("CDRQ"), NARRATIVE("TDSVPOOL"), { 7, ":23G:CANC\n" } } },
+    { "CDRQ with 23G CANC", 13, 0, { KIND("CDRQ"), NARRATIVE("TDSVPOOL"), LINE(7, ":23G:CANC") } },
     { "MDFC with CDRY", 0, 0, { KIND("MDFC") } },
     { "LIST in INST", 15, 0, { LINKED(":20C::LIST//1") } },
     { "TDDK", 0, 0, { KIND("TDDK"), NO_LINK, CONTRA, NARRATIVE("TDSVPOOL/DDTE20240313/DKRSE004") } },
-    { "TDDK with MAST", 0, 0, { KIND("TDDK"), { 10, ":20C::MAST//NONREF\n" }, CONTRA, NARRATIVE("TDSVPOOL/DDTE20240313/DKRSE004") } },
+    { "TDDK with MAST", 0, 0, { KIND("TDDK"), LINE(10, ":20C::MAST//NONREF"), CONTRA, NARRATIVE("TDSVPOOL/DDTE20240313/DKRSE004") } },
     { "TDDK with PREV", 15, 0, { KIND("TDDK"), LINKED(":20C::PREV//1"), CONTRA, NARRATIVE("TDSVPOOL/DDTE20240313/DKRSE004") } },
     { "TDDK without DKRS", 14, 0, { KIND("TDDK"), NO_LINK, CONTRA, NARRATIVE("TDSVPOOL/DDTE20240313") } },
     { "TDDK with CDRY", 15, 0, { KIND("TDDK"), NO_LINK, CONTRA, NARRATIVE("TDSVPOOL/CDRY/DDTE20240313/DKRSE004") } },
-    { "CANC with PREV", 0, 0, { KIND("CANC"), { 7, ":23G:CANC\n" }, LINKED(":20C::PREV//NONREF"), NARRATIVE("TDSVPOOL") } },
+    { "CANC with PREV", 0, 0, { KIND("CANC"), LINE(7, ":23G:CANC"), LINKED(":20C::PREV//NONREF"), NARRATIVE("TDSVPOOL") } },
     { "par zero", 16, 0, { PAR("0,") } },
-    { "SETT before the trade date", 17, 0, { { 15, ":98A::SETT//20240228\n" } } },
+    { "SETT before the trade date", 17, 0, { LINE(15, ":98A::SETT//20240228") } },
 };
 
 /* The rest of the table of kinds: what is must, may and never of each, where the page works no case. */
@@ -485,19 +288,19 @@ static const struct worked of_kinds[] = {
     { "INST with CDRY", 0, 0, { NARRATIVE("TDSVPOOL/CDRY") } },
     { "INST with PREV", 15, 0, { LINKED(":20C::PREV//1") } },
     { "INST without MAST", 14, 0, { NO_LINK } },
-    { "INST with 23G CANC", 13, 0, { { 7, ":23G:CANC\n" } } },
+    { "INST with 23G CANC", 13, 0, { LINE(7, ":23G:CANC") } },
     { "INST with a contra reference", 15, 0, { CONTRA } },
     { "INST with one in its own block", 15, 0, { OWN_CONTRA } },
-    { "CANC with LIST and CDRY", 0, 0, { KIND("CANC"), { 7, ":23G:CANC\n" }, LINKED(":20C::LIST//1") } },
-    { "CANC without MAST", 14, 0, { KIND("CANC"), { 7, ":23G:CANC\n" }, NO_LINK } },
+    { "CANC with LIST and CDRY", 0, 0, { KIND("CANC"), LINE(7, ":23G:CANC"), LINKED(":20C::LIST//1") } },
+    { "CANC without MAST", 14, 0, { KIND("CANC"), LINE(7, ":23G:CANC"), NO_LINK } },
     { "CANC with 23G NEWM", 13, 0, { KIND("CANC") } },
-    { "CANC with DKRS", 15, 0, { KIND("CANC"), { 7, ":23G:CANC\n" }, NARRATIVE("TDSVPOOL/DKRSE004") } },
-    { "CANC with a contra reference", 15, 0, { KIND("CANC"), { 7, ":23G:CANC\n" }, CONTRA } },
-    { "CANC with one in its own block", 15, 0, { KIND("CANC"), { 7, ":23G:CANC\n" }, OWN_CONTRA } },
+    { "CANC with DKRS", 15, 0, { KIND("CANC"), LINE(7, ":23G:CANC"), NARRATIVE("TDSVPOOL/DKRSE004") } },
+    { "CANC with a contra reference", 15, 0, { KIND("CANC"), LINE(7, ":23G:CANC"), CONTRA } },
+    { "CANC with one in its own block", 15, 0, { KIND("CANC"), LINE(7, ":23G:CANC"), OWN_CONTRA } },
     { "MDFC with PREV", 0, 0, { KIND("MDFC"), LINKED(":20C::PREV//1") } },
     { "MDFC with LIST", 0, 0, { KIND("MDFC"), LINKED(":20C::LIST//1") } },
     { "MDFC without MAST", 14, 0, { KIND("MDFC"), NO_LINK } },
-    { "MDFC with 23G CANC", 13, 0, { KIND("MDFC"), { 7, ":23G:CANC\n" } } },
+    { "MDFC with 23G CANC", 13, 0, { KIND("MDFC"), LINE(7, ":23G:CANC") } },
     { "MDFC with DKRS", 15, 0, { KIND("MDFC"), NARRATIVE("TDSVPOOL/DKRSE004") } },
     { "MDFC with a contra reference", 15, 0, { KIND("MDFC"), CONTRA } },
     { "MDFC with one in its own block", 15, 0, { KIND("MDFC"), OWN_CONTRA } },
@@ -506,8 +309,8 @@ static const struct worked of_kinds[] = {
     { "TDDK without its contra reference", 14, 0, { KIND("TDDK"), NO_LINK, NARRATIVE("TDSVPOOL/DKRSE004") } },
     { "TDDK with one in its own block", 14, 0, { KIND("TDDK"), NO_LINK, OWN_CONTRA, NARRATIVE("TDSVPOOL/DKRSE004") } },
     { "TDDK with one in both", 15, 0, { KIND("TDDK"), NO_LINK, CONTRA, OWN_CONTRA, NARRATIVE("TDSVPOOL/DKRSE004") } },
-    { "TDDK of the seller", 0, 0, { KIND("TDDK"), NO_LINK, { 18, ":22H::BUSE//SELL\n" }, OWN_CONTRA, NARRATIVE("TDSVPOOL/DKRSE004") } },
-    { "TDDK with 23G CANC", 13, 0, { KIND("TDDK"), { 7, ":23G:CANC\n" }, NO_LINK, CONTRA, NARRATIVE("TDSVPOOL/DKRSE004") } },
+    { "TDDK of the seller", 0, 0, { KIND("TDDK"), NO_LINK, LINE(18, ":22H::BUSE//SELL"), OWN_CONTRA, NARRATIVE("TDSVPOOL/DKRSE004") } },
+    { "TDDK with 23G CANC", 13, 0, { KIND("TDDK"), LINE(7, ":23G:CANC"), NO_LINK, CONTRA, NARRATIVE("TDSVPOOL/DKRSE004") } },
     { "CDRQ with DKRS", 15, 0, { KIND("CDRQ"), NARRATIVE("TDSVPOOL/DKRSE004") } },
     { "CDRQ with a contra reference", 15, 0, { KIND("CDRQ"), CONTRA } },
     { "CDRQ with one in its own block", 15, 0, { KIND("CDRQ"), OWN_CONTRA } },
@@ -515,56 +318,44 @@ static const struct worked of_kinds[] = {
     { "CDRL with LIST", 0, 0, { KIND("CDRL"), LINKED(":20C::LIST//1") } },
     { "CDRL with PREV", 15, 0, { KIND("CDRL"), LINKED(":20C::PREV//1") } },
     { "CDRL without MAST", 14, 0, { KIND("CDRL"), NO_LINK } },
-    { "CDRL with 23G CANC", 13, 0, { KIND("CDRL"), { 7, ":23G:CANC\n" } } },
+    { "CDRL with 23G CANC", 13, 0, { KIND("CDRL"), LINE(7, ":23G:CANC") } },
     { "CDRL with DKRS", 15, 0, { KIND("CDRL"), NARRATIVE("TDSVPOOL/DKRSE004") } },
     { "CDRL with a contra reference", 15, 0, { KIND("CDRL"), CONTRA } },
     { "CDRL with one in its own block", 15, 0, { KIND("CDRL"), OWN_CONTRA } },
 };
 
-/* Each case with LF and with CR LF. */
-static void cases_want(const struct worked *cases, size_t count)
-{
-    char lf[LONGEST_MADE], crlf[LONGEST_MADE];
-    for (size_t i = 0; i < count; i++) {
-        size_t length = changed(lf, P, cases[i].changes);
-        whole_wants(lf, length, cases[i].number, cases[i].line, cases[i].what);
-        length = with_crlf(crlf, lf);
-        whole_wants(crlf, length, cases[i].number, cases[i].line, cases[i].what);
-    }
-}
-
 static void worked_cases(void)
 {
     char crlf[LONGEST_MADE];
     heading("the worked cases of the page, with LF and with CR LF, by every entry");
-    cases_want(of_page, COUNT(of_page));
+    cases_want(P, of_page, COUNT(of_page));
     whole_wants(B, sizeof B - 1, MT515_HEADER, 3, "B");
     whole_wants(crlf, with_crlf(crlf, B), MT515_HEADER, 3, "B with CR LF");
     heading("the rest of the table of kinds, likewise");
-    cases_want(of_kinds, COUNT(of_kinds));
+    cases_want(P, of_kinds, COUNT(of_kinds));
 }
 
 /* The numbers that the page works no case of: 1 to 3 and 5 to 7; and the least and the greatest length. */
 static void refuses(void)
 {
     static const struct worked cases[] = {
-        { "a tab", MT515_BYTE, 2, { { 2, "0017\t\n" } } },
-        { "two CRs", MT515_BYTE, 17, { { 17, ":19A::SETT//USD0,00\r\r\n" } } },
-        { "- early", MT515_END, 12, { { 12, "-\n" } } },
-        { "more behind -", MT515_END, 34, { { 34, "-\nX\n" } } },
-        { "- without its ending", MT515_END, 34, { { 34, "-" } } },
-        { "password in lower case", MT515_HEADER, 1, { { 1, "lower\n" } } },
-        { "password filled with blanks", MT515_HEADER, 1, { { 1, "PASSWORD    \n" } } },
-        { "sender blank", MT515_HEADER, 2, { { 2, "\n" } } },
-        { "no tag", MT515_SHAPE, 17, { { 17, "19A::SETT//USD0,00\n" } } },
-        { "a second line of the narrative", MT515_SHAPE, 33, { { 33, "/DKRSE004\n:16S:CONFDET\n" } } },
-        { "FIA not closed", MT515_CLOSE, 32, { { 31, "" } } },
-        { "CONFDET not closed", MT515_CLOSE, 33, { { 33, "" } } },
-        { "nine levels", MT515_DEPTH, 13, { { 5, ":16R:GENL\n:16R:A\n:16R:B\n:16R:C\n:16R:D\n:16R:E\n:16R:F\n:16R:G\n:16R:H\n" } } },
-        { "SETDET", MT515_NO_SLOT, 34, { { 34, ":16R:SETDET\n:16S:SETDET\n-\n" } } },
+        { "a tab", MT515_BYTE, 2, { LINE(2, "0017\t") } },
+        { "two CRs", MT515_BYTE, 17, { { 17, 17, ":19A::SETT//USD0,00\r\r\n" } } },
+        { "- early", MT515_END, 12, { LINE(12, "-") } },
+        { "more behind -", MT515_END, 34, { LINE(34, "-\nX") } },
+        { "- without its ending", MT515_END, 34, { { 34, 34, "-" } } },
+        { "password in lower case", MT515_HEADER, 1, { LINE(1, "lower") } },
+        { "password filled with blanks", MT515_HEADER, 1, { LINE(1, "PASSWORD    ") } },
+        { "sender blank", MT515_HEADER, 2, { LINE(2, "") } },
+        { "no tag", MT515_SHAPE, 17, { LINE(17, "19A::SETT//USD0,00") } },
+        { "a second line of the narrative", MT515_SHAPE, 33, { LINE(33, "/DKRSE004\n:16S:CONFDET") } },
+        { "FIA not closed", MT515_CLOSE, 32, { GONE(31, 31) } },
+        { "CONFDET not closed", MT515_CLOSE, 33, { GONE(33, 33) } },
+        { "nine levels", MT515_DEPTH, 13, { LINE(5, ":16R:GENL\n:16R:A\n:16R:B\n:16R:C\n:16R:D\n:16R:E\n:16R:F\n:16R:G\n:16R:H") } },
+        { "SETDET", MT515_NO_SLOT, 34, { LINE(34, ":16R:SETDET\n:16S:SETDET\n-") } },
         { "BASK", MT515_NO_SLOT, 13, { LINKED(":20C::BASK//1") } },
         { "a second MAST", MT515_NO_SLOT, 13, { LINKED(":20C::MAST//1") } },
-        { "two sellers", MT515_NO_SLOT, 25, { { 25, ":95R::SELL/DTCY/PART0017\n" } } },
+        { "two sellers", MT515_NO_SLOT, 25, { LINE(25, ":95R::SELL/DTCY/PART0017") } },
     };
     char message[LONGEST_MADE];
     heading("refused: the other numbers; nothing, 4,096 bytes and one more");
@@ -611,7 +402,7 @@ static void value_wants(const struct spot *spot, const char *value, uint8_t numb
     struct change changes[MOST_CHANGES];
     snprintf(text, sizeof text, "%s%s%s", spot->before, value, spot->behind);
     memcpy(changes, spot->base, sizeof spot->base);
-    changes[MOST_CHANGES - 1] = (struct change){ spot->line, text };
+    changes[MOST_CHANGES - 1] = (struct change){ spot->line, spot->line, text };
     bool has_line = number != MT515_ACCEPTED && number <= MT515_DATE;
     message_wants(message, changed(message, P, changes), number, has_line ? spot->at : 0, text);
 }
@@ -634,7 +425,7 @@ static void texts(void)
         { 4, 4, SPOT(22, ":95R::SELL/DTCY/PART") }, { 4, 4, SPOT(25, ":95R::BUYR/DTCY/PART") },
         { 1, 16, { 22, ":95R::SELL/DTCY/PART0015\n:20C::PROC//", "\n", 23, { KIND("TDDK"), NARRATIVE("TDSVPOOL/DKRSE004") } } },
         { 1, 16, { 25, ":95R::BUYR/DTCY/PART0017\n:20C::PROC//", "\n", 26,
-                   { KIND("TDDK"), NARRATIVE("TDSVPOOL/DKRSE004"), { 18, ":22H::BUSE//SELL\n" } } } },
+                   { KIND("TDDK"), NARRATIVE("TDSVPOOL/DKRSE004"), LINE(18, ":22H::BUSE//SELL") } } },
         { 9, 9, SPOT(28, ":35B:/US/") }, { 1, 9, SPOT(30, ":13B::POOL/DTCY/") },
         { 4, 4, { 32, ":70E::TPRO//DTCY/TDSVPOOL/DKRS", "\n", 33, { KIND("TDDK"), CONTRA } } },
     };
@@ -691,18 +482,6 @@ static void words_amounts_dates(void)
 }
 
 /* ---------------------------------------------------------------- fields */
-
-/* What each slot of a message says; nothing where the message does not have it. */
-static void values_are(const char *message, const char *const values[LAST_SLOT + 1])
-{
-    struct read_answer a = read_message(message, strlen(message));
-    want(a.number == MT515_ACCEPTED && a.line == 0, "fields: number and line", a.number);
-    for (size_t slot = 1; slot <= LAST_SLOT; slot++) {
-        const char *value = values[slot] ? values[slot] : "";
-        size_t wide = strlen(value), from = a.starts[slot];
-        want(a.ends[slot] == from + wide && from <= strlen(message) && begins(message + from, value), "a value", slot);
-    }
-}
 
 /* The page tells of P with CR LF where ten fields stand. */
 static void page_places(void)
@@ -773,25 +552,11 @@ static void fields(void)
 
 /* ---------------------------------------------------------------- plain form */
 
-/* With every room from 0 to one past the length. */
-static void every_room(const char *message, const char *plain, const char *what)
-{
-    size_t length = strlen(plain);
-    struct buffer out;
-    for (size_t room = 0; room <= length + 1; room++) {
-        uint8_t number = room < length ? MT515_ROOM : MT515_ACCEPTED;
-        struct written w = plain_of(message, strlen(message), &out, room);
-        want(w.number == number && w.line == 0 && w.length == (number ? 0 : length), what, room);
-        for (size_t i = 0; number == MT515_ACCEPTED && i < length; i++)
-            want(out.bytes[i] == (uint8_t)plain[i], "plain: a byte", i);
-    }
-}
-
 static void rooms(void)
 {
     static const struct change turned[MOST_CHANGES] = {
-        { 10, ":20C::LIST//LIST567890123456\n" }, { 13, ":20C::MAST//MAST567890123456\n" }, { 16, ":20C::PREV//PREV567890123456\n" },
-        { 28, ":95R::SELL/DTCY/PARTSELC\n" }, { 31, ":95R::BUYR/DTCY/PARTBUYC\n" },
+        LINE(10, ":20C::LIST//LIST567890123456"), LINE(13, ":20C::MAST//MAST567890123456"), LINE(16, ":20C::PREV//PREV567890123456"),
+        LINE(28, ":95R::SELL/DTCY/PARTSELC"), LINE(31, ":95R::BUYR/DTCY/PARTBUYC"),
     };
     char made[LONGEST_MADE];
     heading("plain form: P, the widest, also with its blocks out of order, and a TDDK, with every room from 0 to one past the length");
@@ -814,17 +579,17 @@ static void plain_cases(void)
     static const struct { const char *what; struct change of_P[MOST_CHANGES], of_plain[MOST_CHANGES]; } cases[] = {
         { "19A USD0,: P's own", { MONEY("USD0,") }, { { 0 } } },
         { "19A USD00000000000000,", { MONEY("USD00000000000000,") }, { { 0 } } },
-        { "no 19A: none is added", { { 17, "" } }, { { 17, "" } } },
-        { "19A USD0012,500", { MONEY("USD0012,500") }, { { 17, ":19A::SETT//USD12,5\r\n" } } },
-        { "19A USD0,010", { MONEY("USD0,010") }, { { 17, ":19A::SETT//USD0,01\r\n" } } },
-        { "no FIA", { { 29, "" }, { 30, "" }, { 31, "" } }, { { 29, "" }, { 30, "" }, { 31, "" } } },
-        { "noughts in a pool stay", { { 30, ":13B::POOL/DTCY/000012300\n" } }, { { 30, ":13B::POOL/DTCY/000012300\r\n" } } },
-        { "and in DDTE", { NARRATIVE("TDSVPOOL/DDTE00010101") }, { { 32, ":70E::TPRO//DTCY/TDSVPOOL/DDTE00010101\r\n" } } },
+        { "no 19A: none is added", { GONE(17, 17) }, { GONE(17, 17) } },
+        { "19A USD0012,500", { MONEY("USD0012,500") }, { { 17, 17, ":19A::SETT//USD12,5\r\n" } } },
+        { "19A USD0,010", { MONEY("USD0,010") }, { { 17, 17, ":19A::SETT//USD0,01\r\n" } } },
+        { "no FIA", { GONE(29, 31) }, { GONE(29, 31) } },
+        { "noughts in a pool stay", { LINE(30, ":13B::POOL/DTCY/000012300") }, { { 30, 30, ":13B::POOL/DTCY/000012300\r\n" } } },
+        { "and in DDTE", { NARRATIVE("TDSVPOOL/DDTE00010101") }, { { 32, 32, ":70E::TPRO//DTCY/TDSVPOOL/DDTE00010101\r\n" } } },
         { "LIST before PREV before MAST",
-          { KIND("MDFC"), { 10, ":20C::LIST//3\n" },
-            { 11, ":16S:LINK\n:16R:LINK\n:20C::PREV//2\n:16S:LINK\n:16R:LINK\n:20C::MAST//1\n:16S:LINK\n" } },
-          { { 19, ":22F::PROC/DTCY/MDFC\r\n" }, { 10, ":20C::MAST//1\r\n" },
-            { 11, ":16S:LINK\r\n:16R:LINK\r\n:20C::PREV//2\r\n:16S:LINK\r\n:16R:LINK\r\n:20C::LIST//3\r\n:16S:LINK\r\n" } } },
+          { KIND("MDFC"), LINE(10, ":20C::LIST//3"),
+            LINE(11, ":16S:LINK\n:16R:LINK\n:20C::PREV//2\n:16S:LINK\n:16R:LINK\n:20C::MAST//1\n:16S:LINK") },
+          { { 19, 19, ":22F::PROC/DTCY/MDFC\r\n" }, { 10, 10, ":20C::MAST//1\r\n" },
+            { 11, 11, ":16S:LINK\r\n:16R:LINK\r\n:20C::PREV//2\r\n:16S:LINK\r\n:16R:LINK\r\n:20C::LIST//3\r\n:16S:LINK\r\n" } } },
     };
     char message[LONGEST_MADE], plain[LONGEST_MADE];
     struct buffer out;
@@ -841,14 +606,14 @@ static void plain_cases(void)
 static void widest_by_kind(void)
 {
     static const struct { const char *kind; size_t length; struct change changes[MOST_CHANGES]; } kinds[] = {
-        { "INST", 648, { { 25, ":22F::PROC/DTCY/INST\r\n" }, { 12, "" }, { 13, "" }, { 14, "" }, { 15, "" }, { 16, "" }, { 17, "" } } },
-        { "CANC", 752, { { 25, ":22F::PROC/DTCY/CANC\r\n" }, { 7, ":23G:CANC\r\n" } } },
+        { "INST", 648, { { 25, 25, ":22F::PROC/DTCY/INST\r\n" }, GONE(12, 17) } },
+        { "CANC", 752, { { 25, 25, ":22F::PROC/DTCY/CANC\r\n" }, { 7, 7, ":23G:CANC\r\n" } } },
         { "MDFC", 752, { { 0 } } },
-        { "TDDK", 682, { { 25, ":22F::PROC/DTCY/TDDK\r\n" }, { 12, "" }, { 13, "" }, { 14, "" }, { 15, "" }, { 16, "" }, { 17, "" },
-          { 28, ":95R::BUYR/DTCY/PARTBUYC\r\n:20C::PROC//PROC567890123456\r\n" },
-          { 38, ":70E::TPRO//DTCY/TDSVPOOL/DDTE99991231/DKRSE004\r\n" } } },
-        { "CDRQ", 700, { { 25, ":22F::PROC/DTCY/CDRQ\r\n" }, { 12, "" }, { 13, "" }, { 14, "" } } },
-        { "CDRL", 700, { { 25, ":22F::PROC/DTCY/CDRL\r\n" }, { 12, "" }, { 13, "" }, { 14, "" } } },
+        { "TDDK", 682, { { 25, 25, ":22F::PROC/DTCY/TDDK\r\n" }, GONE(12, 17),
+          { 28, 28, ":95R::BUYR/DTCY/PARTBUYC\r\n:20C::PROC//PROC567890123456\r\n" },
+          { 38, 38, ":70E::TPRO//DTCY/TDSVPOOL/DDTE99991231/DKRSE004\r\n" } } },
+        { "CDRQ", 700, { { 25, 25, ":22F::PROC/DTCY/CDRQ\r\n" }, GONE(12, 14) } },
+        { "CDRL", 700, { { 25, 25, ":22F::PROC/DTCY/CDRL\r\n" }, GONE(12, 14) } },
     };
     char message[LONGEST_MADE];
     struct buffer out;
@@ -866,18 +631,10 @@ static void widest_by_kind(void)
 
 /* ---------------------------------------------------------------- batch */
 
-static void next_wants(const char *batch, size_t length, size_t position, struct next_answer wanted)
-{
-    struct next_answer a = next_of(batch, length, position);
-    want(a.found == wanted.found, "next: what is found", position);
-    want(a.number == wanted.number && a.line == wanted.line, "next: number and line", position);
-    want(a.next == wanted.next, "next: the position", position);
-}
-
 /* Messages of the pool, accepted and refused, an MT515 among them, and at the end a piece without an end. */
 static void batch(void)
 {
-    static const struct change zero[MOST_CHANGES] = { PAR("0,") }, early[MOST_CHANGES] = { { 15, ":98A::SETT//20240228\n" } };
+    static const struct change zero[MOST_CHANGES] = { PAR("0,") }, early[MOST_CHANGES] = { LINE(15, ":98A::SETT//20240228") };
     char par_zero[LONGEST_MADE], settled_early[LONGEST_MADE], bytes[LENDABLE];
     changed(par_zero, P, zero);
     changed(settled_early, P, early);
@@ -911,14 +668,7 @@ static void batch(void)
     /* a batch that is cut inside its first message */
     next_wants(bytes, start[1] - 1, 0, (struct next_answer){ MT515_MESSAGE, 3, 34, start[1] - 1 });
     next_wants(bytes, end, end - 1, (struct next_answer){ MT515_MESSAGE, 3, 1, end });
-
-    static const size_t beyond[] = { 1, 2, 100, 4294967296u, SIZE_MAX / 2 };
-    next_wants(bytes, end, end, (struct next_answer){ MT515_DONE, 0, 0, end });
-    for (size_t i = 0; i < COUNT(beyond); i++)
-        next_wants(bytes, end, end + beyond[i], (struct next_answer){ MT515_BEYOND, MT515_PAST, 0, end + beyond[i] });
-    next_wants(bytes, end, SIZE_MAX, (struct next_answer){ MT515_BEYOND, MT515_PAST, 0, SIZE_MAX });
-    next_wants("", 0, 0, (struct next_answer){ MT515_DONE, 0, 0, 0 });
-    next_wants("", 0, 1, (struct next_answer){ MT515_BEYOND, MT515_PAST, 0, 1 });
+    behind_batch(bytes, end);
 }
 
 int main(void)
