@@ -1,7 +1,6 @@
 /* messages.c: see messages.h. A message is put down line by line, in the order of document 01's table, one of the pool in that of
  * request A1's. What both have is written as the MT515 has it. */
 #include "messages.h"
-#include "second.h"
 
 #include <stdbool.h>
 #include <string.h>
@@ -90,16 +89,6 @@ static void text_line(struct pen *pen, const char *fixed, size_t small, size_t w
 {
     put(pen, fixed);
     put_c(pen, pen->wide ? wide : small);
-    end_line(pen);
-}
-
-/* The ninth character is the one that passes, which the second program works out. */
-static void security_line(struct pen *pen)
-{
-    put(pen, ":35B:/US/");
-    put_c(pen, WIDTH_OF_SECURITY - 1);
-    const uint8_t *eight = pen->at - (WIDTH_OF_SECURITY - 1);
-    *pen->at++ = second_check_digit(eight);
     end_line(pen);
 }
 
@@ -234,7 +223,7 @@ static void details(struct pen *pen)
     party(pen, pen->turned);
     party(pen, !pen->turned);
     amount_line(pen, ":36B::CONF//FAMT/", pen->wide ? 14 : 7, 0);
-    security_line(pen);
+    text_line(pen, ":35B:/US/", 9, 9);
     if (pen->wide)
         pool_block(pen);
     narrative(pen);

@@ -2,7 +2,7 @@
  * take a batch apart.
  *
  * What mt515.h says first of its entries holds of these too: what may be passed, what a caller owes, that every answer is written
- * in every case, and where the archive is. The numbers that an entry answers are those of mt515.h but 23, and 22 for an eleventh REAS;
+ * in every case, and where the archive is. The numbers that an entry answers are those of mt515.h and 22 for an eleventh REAS, and
  * what mt509_next finds at a position is as there: MT515_MESSAGE, MT515_DONE or MT515_BEYOND. */
 #ifndef MT509_H
 #define MT509_H

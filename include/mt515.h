@@ -18,8 +18,7 @@
 #define MT515_RECORD 375
 #define MT515_LONGEST 822
 
-/* The numbers that an entry answers: 0, or why a message, a record or a position is refused. Reading goes in steps, and the first
- * that finds something decides: 1; 2; 3; 4; 5, 6 and 7; 8 and 9; 10, 11, 12 and 23; 13; 14; 15; 16; 17. 22 is mt509.h's. */
+/* The numbers that an entry answers: 0, or why a message, a record or a position is refused. */
 #define MT515_ACCEPTED 0
 #define MT515_LENGTH 1          /* empty, or over 4,096 bytes */
 #define MT515_BYTE 2            /* a byte other than 20 to 7E hex and line endings, or CR without LF */
@@ -42,7 +41,6 @@
 #define MT515_ROOM 19           /* the buffer is shorter than the message */
 #define MT515_NARRATIVE 20      /* the narrative is over 35 characters: kept for its place in the order, it does not come up */
 #define MT515_PAST 21           /* the position is past the end of the batch */
-#define MT515_CHECK_DIGIT 23    /* the check digit of the security is wrong, or no digit */
 
 /* What mt515_next finds at a position. */
 #define MT515_MESSAGE 0
@@ -96,7 +94,7 @@
 #define MT515_AT_SELL 193
 #define MT515_AT_SELL_REFERENCE 214
 #define MT515_AT_SELL_TDID 235
-#define MT515_AT_CUSIP 256          /* nine, the last of which is the check digit of the others; else 18 */
+#define MT515_AT_CUSIP 256
 #define MT515_AT_POOL 277
 #define MT515_AT_DKRS 298
 /* Seven numbers of 8 bytes, the least byte first: */

@@ -6,8 +6,7 @@
  *
  * What mt515.h says first of its entries holds of these too: what may be passed, what a caller owes, that every answer is written
  * in every case, and where the archive is. The numbers that an entry answers are those of mt515.h, from MT515_ACCEPTED to
- * MT515_PAST and MT515_CHECK_DIGIT, which are looked for in the same steps; and so is what pool_next finds at a position:
- * MT515_MESSAGE, MT515_DONE or MT515_BEYOND. */
+ * MT515_PAST, and so is what pool_next finds at a position: MT515_MESSAGE, MT515_DONE or MT515_BEYOND. */
 #ifndef POOL_H
 #define POOL_H
 

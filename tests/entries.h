@@ -1,11 +1,13 @@
-/* entries.h: what the tests of a further message type share: its four entries, each called between guards; and what must hold of every
- * message, whatever the type. A test that includes it has said before what ENTRY(read) and its like are, how many FIELDS are lent,
- * which is the LAST_SLOT and how long the LONGEST plain form is. */
+/* entries.h: what the tests of a further message type share: its four entries, each called between guards; changes to a message; and what
+ * must hold of every message, whatever the type. A test that includes it has said before what ENTRY(read) and its like are, how many
+ * FIELDS are lent, which is the LAST_SLOT and how long the LONGEST plain form is. */
 #ifndef ENTRIES_H
 #define ENTRIES_H
 
 #include "lent.h"
 #include "mt515.h"
+
+#define COUNT(list) (sizeof (list) / sizeof (list)[0])
 
 /* ---------------------------------------------------------------- the entries, each called between guards */
 
@@ -82,6 +84,52 @@ static inline struct next_answer next_of(const void *batch, size_t length, size_
     want(stands(lent, batch, length), "next changed the batch", position);
     return (struct next_answer){ found, number.value, line.value, next.value };
 }
+
+/* ---------------------------------------------------------------- changes to a message */
+
+/* Lines from a first to a last, counted from 1 before any change, and what stands there instead, with its own endings. */
+struct change { size_t first, last; const char *text; };
+
+enum { MOST_CHANGES = 9, LONGEST_MADE = 2 * PAGE };
+
+/* A message with some changes, as a string. */
+static inline size_t changed(char out[LONGEST_MADE], const char *message, const struct change changes[MOST_CHANGES])
+{
+    size_t length = 0, line = 1;
+    for (const char *at = message, *end; *at; at = end, line++) {
+        end = strchr(at, '\n') + 1;
+        const char *text = at;
+        size_t wide = (size_t)(end - at);
+        for (size_t i = 0; i < MOST_CHANGES; i++)
+            if (line >= changes[i].first && line <= changes[i].last) {
+                text = changes[i].text;
+                wide = line == changes[i].first ? strlen(text) : 0;
+            }
+        memcpy(out + length, text, wide);
+        length += wide;
+    }
+    out[length] = 0;
+    return length;
+}
+
+/* A message that has LF endings, with CR LF. */
+static inline size_t with_crlf(char out[LONGEST_MADE], const char *message)
+{
+    size_t length = 0;
+    for (; *message; message++) {
+        if (*message == '\n')
+            out[length++] = '\r';
+        out[length++] = *message;
+    }
+    out[length] = 0;
+    return length;
+}
+
+#define LINE(number, text) { number, number, text "\n" }
+#define GONE(first, last) { first, last, "" }
+
+/* A changed message, and what it gets. */
+struct worked { const char *what; uint8_t number; size_t line; struct change changes[MOST_CHANGES]; };
 
 /* ---------------------------------------------------------------- a line, and the value in it */
 
@@ -170,18 +218,15 @@ static inline void whole_wants(const char *message, size_t length, uint8_t numbe
         others_refuse(message, length);
 }
 
+/* Each case of a message, with LF and with CR LF. */
 static inline void cases_want(const char *message, const struct worked *cases, size_t count)
 {
-    try_cases(message, cases, count, whole_wants);
-}
-
-/* A refused message has no plain form, whatever the room: 19 would come later. */
-static inline void no_room_helps(const char *message, size_t length, uint8_t number, size_t line)
-{
-    struct buffer out;
-    for (size_t room = 0; room <= LONGEST + 1; room++) {
-        struct written w = plain_of(message, length, &out, room);
-        want(w.number == number && w.line == line, "plain of a refused message: number and line", room);
+    char lf[LONGEST_MADE], crlf[LONGEST_MADE];
+    for (size_t i = 0; i < count; i++) {
+        size_t length = changed(lf, message, cases[i].changes);
+        whole_wants(lf, length, cases[i].number, cases[i].line, cases[i].what);
+        length = with_crlf(crlf, lf);
+        whole_wants(crlf, length, cases[i].number, cases[i].line, cases[i].what);
     }
 }
 

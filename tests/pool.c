@@ -1,7 +1,6 @@
 /* pool.c: calls every entry of include/pool.h as a C program does, and holds the answers against what the page of request A1
- * prints: P, its fields and its plain form, the widest messages, and all its worked cases; and against what the page of request A4
- * says of securities. What is lent stands between guard bytes, and a message ends just before a page that may not be touched. Says
- * what it tried; the last line says how it went. */
+ * prints: P, its fields and its plain form, the widest messages, and all its worked cases. What is lent stands between guard bytes,
+ * and a message ends just before a page that may not be touched. Says what it tried; the last line says how it went. */
 #define _DEFAULT_SOURCE
 #include "pool.h"
 
@@ -416,8 +415,7 @@ static void values_want(const struct spot *spots, size_t spot_count, const char 
             value_wants(&spots[i], values[k], number);
 }
 
-/* Each text with every width up to 20, and with an odd last character: 10, in the header 4, where it does not fit. It is of noughts,
- * nine of which are a security. */
+/* Each text with every width up to 20, and with an odd last character: 10, in the header 4, where it does not fit. */
 static void texts(void)
 {
     static const struct { size_t least, most; struct spot spot; } texts[] = {
@@ -481,77 +479,6 @@ static void words_amounts_dates(void)
     values_want(amounts + 2, 1, zeros, COUNT(zeros), MT515_PAR_ZERO);
     values_want(dates, COUNT(dates), odd_dates, COUNT(odd_dates), MT515_DATE);
     values_want(dates, COUNT(dates), trade_date, COUNT(trade_date), MT515_ACCEPTED);
-}
-
-/* ---------------------------------------------------------------- the check digit */
-
-#define MISTYPED LINE(28, ":35B:/US/01F070634")
-
-/* What the page of request A4 works out of B with a mistyped security and something else that is wrong, in its order, of P. */
-static const struct worked of_check_digit[] = {
-    { ":35B::US/", 10, 28, { LINE(28, ":35B::US/01F070634") } },
-    { "TDSVOPTN", 23, 28, { MISTYPED, NARRATIVE("TDSVOPTN") } },
-    { "par 17", 11, 27, { MISTYPED, PAR("17") } },
-    { "trade date 20230229", 12, 14, { MISTYPED, LINE(14, ":98C::TRAD//20230229000000") } },
-    { "23G CANC", 23, 28, { MISTYPED, LINE(7, ":23G:CANC") } },
-    { "no line 32", 9, 32, { MISTYPED, GONE(32, 32) } },
-    { "par zero", 23, 28, { MISTYPED, PAR("0,") } },
-};
-
-/* The rest of the order, by what is the pool's own: 8 and 9 come before 23 wherever they are met, the money by its line, the pool and
- * the narrative, with its date, behind it, and 14 to 17 come behind it. Then the kinds. */
-static const struct worked of_order[] = {
-    { "the MT515's header", 4, 3, { MISTYPED, LINE(3, "515/000/GSCC"), LINE(4, "MBSCTRRS") } },
-    { "no tag behind", 5, 33, { MISTYPED, LINE(33, "/DKRSE004\n:16S:CONFDET") } },
-    { "FIA not closed", 6, 32, { MISTYPED, GONE(31, 31) } },
-    { "SETDET behind", 8, 34, { MISTYPED, LINE(34, ":16R:SETDET\n:16S:SETDET\n-") } },
-    { "FIA without its pool", 9, 30, { MISTYPED, GONE(30, 30) } },
-    { "money in EUR", 10, 17, { MISTYPED, MONEY("EUR1,") } },
-    { "money without comma", 11, 17, { MISTYPED, MONEY("USD1") } },
-    { "a pool of ten", 23, 28, { MISTYPED, LINE(30, ":13B::POOL/DTCY/POOL567890") } },
-    { "DDTE no day", 23, 28, { MISTYPED, NARRATIVE("TDSVPOOL/DDTE20230229") } },
-    { "no MAST", 23, 25, { MISTYPED, NO_LINK } },
-    { "DKRS in INST", 23, 28, { MISTYPED, NARRATIVE("TDSVPOOL/DKRSE004") } },
-    { "settles before the trade date", 23, 28, { MISTYPED, LINE(15, ":98A::SETT//20240228") } },
-    { "no money", 23, 27, { MISTYPED, GONE(17, 17) } },
-    { "no FIA", 23, 28, { MISTYPED, GONE(29, 31) } },
-    { "CANC", 23, 28, { MISTYPED, KIND("CANC"), LINE(7, ":23G:CANC") } },
-    { "MDFC", 23, 28, { MISTYPED, KIND("MDFC") } },
-    { "TDDK", 23, 29, { MISTYPED, KIND("TDDK"), CONTRA, NARRATIVE("TDSVPOOL/DKRSE004") } },
-    { "CDRQ", 23, 28, { MISTYPED, KIND("CDRQ") } },
-    { "CDRL", 23, 28, { MISTYPED, KIND("CDRL") } },
-};
-
-/* By every entry, and without a plain form in any room where it is refused. */
-static void case_wants(const char *message, size_t length, uint8_t number, size_t line, const char *what)
-{
-    whole_wants(message, length, number, line, what);
-    if (number != MT515_ACCEPTED)
-        no_room_helps(message, length, number, line);
-}
-
-/* Alone and as a batch of one: a message for each byte is too many for all fields of it. */
-static void number_wants(const char *message, size_t length, uint8_t number, size_t line, const char *what)
-{
-    struct read_answer a = read_message(message, length);
-    want(a.number == number && a.line == line, what, a.number);
-    next_wants(message, length, 0, (struct next_answer){ MT515_MESSAGE, number, line, length });
-}
-
-static void check_digits(void)
-{
-    static const struct change of_widest[MOST_CHANGES] = { { 34, 34, ":35B:/US/01F070642\r\n" } };
-    char message[LONGEST_MADE];
-    heading("the check digit: the worked cases of request A4's page, with LF and with CR LF, by every entry and in every room");
-    try_securities(P, 28, case_wants);
-    try_cases(P, of_check_digit, COUNT(of_check_digit), case_wants);
-    heading("the check digit: the rest of the order, and every kind, by every entry");
-    cases_want(P, of_order, COUNT(of_order));
-    whole_wants(message, changed(message, WIDEST, of_widest), MT515_CHECK_DIGIT, 34, "the widest");
-    heading("the check digit: each c in the ninth place; each c in the others, with its digit; each byte in each place");
-    try_ninths(P, 28, whole_wants);
-    try_eights(P, 28, whole_wants);
-    try_bytes(P, 28, number_wants);
 }
 
 /* ---------------------------------------------------------------- fields */
@@ -707,15 +634,13 @@ static void widest_by_kind(void)
 /* Messages of the pool, accepted and refused, an MT515 among them, and at the end a piece without an end. */
 static void batch(void)
 {
-    static const struct change zero[MOST_CHANGES] = { PAR("0,") }, early[MOST_CHANGES] = { LINE(15, ":98A::SETT//20240228") },
-                               slip[MOST_CHANGES] = { MISTYPED };
-    char par_zero[LONGEST_MADE], settled_early[LONGEST_MADE], mistyped[LONGEST_MADE], bytes[LENDABLE];
+    static const struct change zero[MOST_CHANGES] = { PAR("0,") }, early[MOST_CHANGES] = { LINE(15, ":98A::SETT//20240228") };
+    char par_zero[LONGEST_MADE], settled_early[LONGEST_MADE], bytes[LENDABLE];
     changed(par_zero, P, zero);
     changed(settled_early, P, early);
-    changed(mistyped, P, slip);
     const struct { const char *text; uint8_t number; size_t line; } pieces[] = {
         { P, 0, 0 }, { P_PLAIN, 0, 0 }, { "X\n-\n", 4, 2 }, { B, 4, 3 }, { par_zero, 16, 0 }, { DK, 0, 0 }, { "-\n", 4, 1 },
-        { settled_early, 17, 0 }, { WIDEST, 0, 0 }, { mistyped, 23, 28 }, { "\t\n-\r\n", 2, 1 }, { P, 0, 0 }, { "\nY-", 3, 2 },
+        { settled_early, 17, 0 }, { WIDEST, 0, 0 }, { "\t\n-\r\n", 2, 1 }, { P, 0, 0 }, { "\nY-", 3, 2 },
     };
     enum { PIECES = COUNT(pieces) };
     size_t start[PIECES + 1] = { 0 };
@@ -725,7 +650,7 @@ static void batch(void)
     }
     size_t end = start[PIECES];
 
-    heading("batch: thirteen pieces, an MT515 among them; one by one, inside a line, at and past the end");
+    heading("batch: twelve pieces, an MT515 among them; one by one, inside a line, at and past the end");
     for (size_t i = 0; i < PIECES; i++) {
         next_wants(bytes, end, start[i], (struct next_answer){ MT515_MESSAGE, pieces[i].number, pieces[i].line, start[i + 1] });
         message_wants(bytes + start[i], start[i + 1] - start[i], pieces[i].number, pieces[i].line, "a piece by itself");
@@ -754,11 +679,10 @@ int main(void)
     left_out();
     texts();
     words_amounts_dates();
-    check_digits();
     fields();
     rooms();
     plain_cases();
     widest_by_kind();
     batch();
-    return verdict("the entries of the pool answer as the pages of requests A1 and A4 say");
+    return verdict("the entries of the pool answer as the page of request A1 says");
 }

@@ -1,6 +1,6 @@
 #!/bin/sh
 # The messages of tests/samples, with LF and with CR LF: the desk's lister, the second program and a stored table, which was
-# worked out by hand from document 01 and request A4, say the same of each: number, line, kind, MAST, buyer and seller.
+# worked out by hand from document 01, say the same of each: number, line, kind, MAST, buyer and seller.
 set -eu
 cd "$(dirname "$0")/.."
 work=$(mktemp -d)

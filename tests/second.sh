@@ -1,7 +1,7 @@
 #!/bin/sh
-# A second program, written in C without sight of crates/, holds against what document 01 and the pages of requests A1, A3 and A4
-# print; and it and the static library, called by a C program through include/mt515.h, include/pool.h and include/mt509.h, answer
-# alike on generated messages, records and batches of the MT515 in both profiles and of the MT509, and on the MT509 of document 003.
+# A second program, written in C without sight of crates/, holds against what document 01 and the pages of requests A1 and A3 print;
+# and it and the static library, called by a C program through include/mt515.h, include/pool.h and include/mt509.h, answer alike on
+# generated messages, records and batches of the MT515 in both profiles and of the MT509, and on the MT509 of document 003.
 # Usage: tests/second.sh [SEED]
 set -eu
 cd "$(dirname "$0")/.."
@@ -13,7 +13,7 @@ tests/second/check.sh
 
 tests/second/build.sh "$work/differ"
 mkdir "$work/messages"
-python3 tests/second/make.py "$seed" 3000 "$work/messages"
+python3 tests/second/make.py "$seed" 2700 "$work/messages"
 python3 tests/second/pool.py >"$work/messages/pool.txt"
 python3 tests/second/mt509.py >"$work/messages/mt509.txt"
 bin/run-x86 "$work/differ" -f "$work"/messages/* tests/samples/answers-printed.txt tests/samples/answers-mended.txt

@@ -177,31 +177,6 @@ static const char *text(struct chance *c, size_t least, size_t most)
     return text_of(c, c->widest ? most : wide);
 }
 
-/* A security that passes, of any c or of digits alone. */
-static const char *security(struct chance *c)
-{
-    static char made[WIDTH_OF_SECURITY + 1];
-    bool of_digits = one_in(c, 2);
-    for (size_t i = 0; i < WIDTH_OF_SECURITY - 1; i++)
-        made[i] = of_digits ? (char)('0' + below(c, 10)) : letters[below(c, sizeof letters - 1)];
-    made[WIDTH_OF_SECURITY - 1] = (char)second_check_digit((const uint8_t *)made);
-    return made;
-}
-
-/* A slip in a security: another digit in the ninth place, a letter there, two neighbours exchanged, one character changed. Now and
- * then it passes all the same. */
-static void mistype(struct chance *c, char *nine)
-{
-    size_t last = WIDTH_OF_SECURITY - 1, at = below(c, last);
-    char other = letters[below(c, sizeof letters - 1)], kept = nine[at];
-    switch (below(c, 4)) {
-    case 0: nine[last] = (char)('0' + below(c, 10)); return;
-    case 1: nine[last] = (char)('A' + below(c, 26)); return;
-    case 2: nine[at] = nine[at + 1]; nine[at + 1] = kept; return;
-    default: nine[at] = other; return;
-    }
-}
-
 static unsigned days(unsigned year, unsigned month)
 {
     static const unsigned of_month[] = { 31, 28, 31, 30, 31, 30, 31, 31, 30, 31, 30, 31 };
@@ -378,7 +353,7 @@ static void add_details(struct sheet *s, size_t kind)
     add(s, PAYM, ":22H::PAYM//APMT", "");
     add_parties(s, kind, side);
     add(s, PAR, ":36B::CONF//FAMT/", above_zero(c));
-    add(s, CUSIP, ":35B:/US/", security(c));
+    add(s, CUSIP, ":35B:/US/", text(c, 9, 9));
     if (one_in(c, 2)) {
         add(s, FIA, ":16R:FIA", "");
         add(s, POOL, ":13B::POOL/GSCC/", text(c, 1, 9));
@@ -535,7 +510,7 @@ static void stray_line(struct sheet *s)
         ":98C::PREP//20240229000000", ":22F::TRTR/GSCC/CASH", ":98C::TRAD//20240229000000", ":98A::SETT//20240229", ":98A::TRAD//20240229",
         ":98C::SETT//20240229000000", ":90A::DEAL//PRCT/1,", ":22H::BUSE//BUYI", ":22F::PROC/GSCC/INST", ":22H::PROC/GSCC/INST",
         ":22H::PAYM//APMT", ":95R::BUYR/GSCC/PART0001", ":95R::SELL/GSCC/PART0001", ":95R::BUYI/GSCC/PART0001", ":95P::BUYR/GSCC/PART0001",
-        ":70C::PACO//GSCC/TDID1", ":36B::CONF//FAMT/1,", ":35B:/US/123456782", ":35A:/US/123456782", ":13B::POOL/GSCC/1",
+        ":70C::PACO//GSCC/TDID1", ":36B::CONF//FAMT/1,", ":35B:/US/123456789", ":35A:/US/123456789", ":13B::POOL/GSCC/1",
         ":70E::TPRO//GSCC/TDSVSTIP", ":70C::TPRO//GSCC/TDSVSTIP", ":70E::TPR", ":70E::TPRO//GSCC/TDSVPOOL", ":19A::SETT//USD1,",
         ":19A::LOCO//USD1,", ":19B::SETT//USD1,", ":90A::SETT//USD1,"
     };
@@ -627,9 +602,9 @@ static void further_block(struct sheet *s)
     insert(s, at + 1, OTHER, link ? ":16S:LINK" : ":16S:CONFPRTY", "");
 }
 
-/* ---------------------------------------------------------------- near misses: 10, 11, 12 and 23 */
+/* ---------------------------------------------------------------- near misses: 10, 11 and 12 */
 
-enum form { TEXT, SECURITY, WORD, AMOUNT, DATE, MOMENT, TAIL };
+enum form { TEXT, WORD, AMOUNT, DATE, MOMENT, TAIL };
 
 struct value {
     enum label label;
@@ -647,7 +622,7 @@ static const struct value values[] = {
     { BUSE, ":22H::BUSE", "//", WORD, 0, 0 }, { PROC, ":22F::PROC", "/GSCC/", WORD, 0, 0 },
     { PAYM, ":22H::PAYM", "//APMT", WORD, 0, 0 }, { BUYR, ":95R::BUYR", "/GSCC/PART", TEXT, 4, 4 },
     { SELL, ":95R::SELL", "/GSCC/PART", TEXT, 4, 4 }, { CONTRA, ":20C::PROC", "//", TEXT, 1, 16 },
-    { TDID, ":70C::PACO", "//GSCC/TDID", TEXT, 1, 20 }, { PAR, ":36B::CONF", "//FAMT/", AMOUNT, 0, 0 }, { CUSIP, ":35B:", "/US/", SECURITY, 0, 0 },
+    { TDID, ":70C::PACO", "//GSCC/TDID", TEXT, 1, 20 }, { PAR, ":36B::CONF", "//FAMT/", AMOUNT, 0, 0 }, { CUSIP, ":35B:", "/US/", TEXT, 9, 9 },
     { POOL, ":13B::POOL", "/GSCC/", TEXT, 1, 9 }, { NARRATIVE, ":70E::TPRO", "//GSCC/", TAIL, 0, 0 },
 };
 
@@ -662,23 +637,6 @@ static const char *odd_text(struct chance *c, size_t least, size_t most)
     if (at < wide && one_in(c, 2))
         made[at] = odd[below(c, sizeof odd - 1)];
     return made;
-}
-
-/* A security with a slip; one that passed before it was cut, made longer or given a character that is no c; or any text. */
-static const char *odd_security(struct chance *c)
-{
-    static const char odd[] = "a /:@[*#-`{z.";
-    static char made[WIDTH_OF_SECURITY + 2];
-    size_t last = WIDTH_OF_SECURITY - 1, at = one_in(c, 2) ? last : below(c, last);
-    char none = odd[below(c, sizeof odd - 1)];
-    paste(made, sizeof made, security(c), "");
-    switch (below(c, 6)) {
-    case 0: return odd_text(c, WIDTH_OF_SECURITY, WIDTH_OF_SECURITY);
-    case 1: made[last] = 0; return made;
-    case 2: paste(made, sizeof made, made, text_of(c, 1)); return made;
-    case 3: made[at] = none; return made;
-    default: mistype(c, made); return made;
-    }
 }
 
 static const char *odd_word(struct chance *c)
@@ -783,7 +741,6 @@ static const char *odd_value(struct sheet *s, const struct value *v)
     struct chance *c = s->chance;
     switch (v->form) {
     case TEXT: return odd_text(c, v->least, v->most);
-    case SECURITY: return odd_security(c);
     case WORD: return odd_word(c);
     case AMOUNT: return odd_amount(c);
     case TAIL: return s->pool ? odd_pool_tail(c) : odd_tail(c);
@@ -791,7 +748,7 @@ static const char *odd_value(struct sheet *s, const struct value *v)
     }
 }
 
-/* Amounts, dates and securities, which have the most ways to be wrong, as often as all else together. */
+/* Amounts and dates, which have the most ways to be wrong, as often as all else together. */
 static const struct value *a_value(struct sheet *s)
 {
     struct chance *c = s->chance;
@@ -832,17 +789,6 @@ static void wrong_fixed_text(struct sheet *s)
     case 2: memmove(text + place, text + place + 1, wide - place); return;
     default: squeeze(text, place, other); return;
     }
-}
-
-/* A security with a slip, whatever else the message will have: so faults of every pass and of every line stand beside 23. Now and
- * then the text before it is wrong too, which comes first on the line. */
-static void mistyped_security(struct sheet *s)
-{
-    static const char *const wrong[] = { ":35B::US/", ":35B:/US", ":35B:/US//", ":35B://US/", ":35B:US/", ":35B:/GB/", ":35B:/us/", ":35B:" };
-    char made[WIDTH_OF_SECURITY + 1];
-    paste(made, sizeof made, security(s->chance), "");
-    mistype(s->chance, made);
-    set(s, CUSIP, one_in(s->chance, 8) ? PICK(s->chance, wrong) : ":35B:/US/", made);
 }
 
 /* ---------------------------------------------------------------- near misses: 13 to 17 */
@@ -1152,8 +1098,6 @@ bool make_message(struct chance *chance, enum sort sort, struct bytes *message)
         accepted_answer(&s);
     else
         accepted(&s);
-    if (!s.answer && one_in(chance, 6))
-        mistyped_security(&s);
     bool by_lines = one_in(chance, 4);
     if (by_lines)
         damage_lines(&s);
@@ -1175,7 +1119,6 @@ enum { A_PASSWORD, A_SENDER, A_SEME, A_MAST, A_PREV, A_LIST, A_BUYER, A_BUYERS, 
        A_CUSIP, A_POOL, A_DKRS };
 
 static uint8_t *text_place(uint8_t *record, size_t which) { return record + FIRST_TEXT + which * TEXT_BYTES; }
-static char *security_place(uint8_t *record) { return (char *)text_place(record, A_CUSIP) + 1; }
 
 static void put_record_text(struct chance *c, uint8_t *record, size_t which, size_t length)
 {
@@ -1232,7 +1175,6 @@ static void writable(struct chance *c, uint8_t record[RECORD_BYTES])
     for (size_t i = 0; i < TEXTS; i++)
         if (!texts[i].optional || kind_has(c, record[0], record[1], i))
             put_record_text(c, record, i, c->widest || one_in(c, 3) ? texts[i].most : between(c, texts[i].least, texts[i].most));
-    memcpy(security_place(record), security(c), WIDTH_OF_SECURITY);
     if (one_in(c, 2))
         put_record_number(record, 0, a_moment(c));
     put_record_number(record, 1, moment(one < two ? one : two, a_time(c)));
@@ -1258,8 +1200,6 @@ static void edge_of_text(struct chance *c, uint8_t *record)
     default: at[0] = (uint8_t)(at[0] + between(c, 0, 2) - 1); return;
     }
 }
-
-static void edge_of_security(struct chance *c, uint8_t *record) { mistype(c, security_place(record)); }
 
 static void edge_of_number(struct chance *c, uint8_t *record)
 {
@@ -1319,12 +1259,11 @@ void make_record(struct chance *chance, uint8_t record[RECORD_BYTES])
     }
     size_t many = one_in(chance, 4) ? 0 : one_in(chance, 4) ? 2 : 1;
     for (size_t i = 0; i < many; i++)
-        switch (below(chance, 7)) {
+        switch (below(chance, 6)) {
         case 0: edge_of_text(chance, record); break;
         case 1: edge_of_number(chance, record); break;
         case 2: edge_of_kind(chance, record); break;
         case 3: edge_of_rules(chance, record); break;
-        case 4: edge_of_security(chance, record); break;
         default: other_byte(chance, record); break;
         }
 }

@@ -31,7 +31,7 @@ enum {
     MARK = 0xA5,
     AMPLE = 100,                     /* room beyond the longest message */
     MOST_ROOM = LONGEST_OF_MT509 + AMPLE,
-    NUMBERS_OF_DESK = 24
+    NUMBERS_OF_DESK = 23
 };
 
 /* ---------------------------------------------------------------- the case that is tried */
@@ -44,30 +44,27 @@ static struct {
     size_t length;
 } now;
 
-/* How often each number came up, by entry; with reading once more of the messages damaged by lines alone, of those with a wrong
- * check digit, of those that got 23 what they get with the right one, of the pool's messages whose 70E line decides, of the MT509
- * whose STAT block decides, and of the messages of the other types. */
+/* How often each number came up, by entry; with reading once more of the messages damaged by lines alone, of the pool's messages
+ * whose 70E line decides, of the MT509 whose STAT block decides, and of the messages of the other types. */
 enum {
-    READ, FIELD, PLACES, PLAIN, WRITE, NEXT, LINES, BESIDE, BEHIND, OTHERS,
-    POOL_READ, POOL_FIELD, POOL_PLAIN, POOL_NEXT, POOL_LINES, POOL_BESIDE, POOL_BEHIND, POOL_TAIL, POOL_OTHERS,
+    READ, FIELD, PLACES, PLAIN, WRITE, NEXT, LINES, OTHERS,
+    POOL_READ, POOL_FIELD, POOL_PLAIN, POOL_NEXT, POOL_LINES, POOL_TAIL, POOL_OTHERS,
     MT509_READ, MT509_FIELD, MT509_PLAIN, MT509_NEXT, MT509_LINES, MT509_STAT, MT509_OTHERS,
     COUNTED
 };
 static uint64_t came_up[COUNTED][NUMBERS_OF_DESK];
 
-/* The numbers that must come up, a bit each: with reading 0 to 17 and 23, with a plain form 19 too, with writing 0 and 14 to 19, with
- * the batch 21; with the messages damaged by lines, which are made for these, 0, 5, 6, 8, 9 and 10. 20 does not come up. */
+/* The numbers that must come up, a bit each: with reading 0 to 17, with a plain form 19 too, with writing 0 and 14 to 19, with the
+ * batch 21; with the messages damaged by lines, which are made for these, 0, 5, 6, 8, 9 and 10. 20 does not come up. */
 enum {
-    OF_READING = ((1 << 18) - 1) | 1 << 23,
+    OF_READING = (1 << 18) - 1,
     OF_PLAIN = OF_READING | 1 << 19,
     OF_WRITING = 1 | 63 << 14,
     OF_NEXT = OF_READING | 1 << 21,
     OF_LINES = 1 | 1 << 5 | 1 << 6 | 7 << 8,
-    OF_BESIDE = 1 << 4 | 1 << 5 | 1 << 6 | 31 << 8 | 1 << 23,     /* of the early passes some, the layout and all values */
-    OF_BEHIND = 1 | 1 << 10 | 31 << 13,                           /* 70E, and what the fields say together */
     OF_TAIL = 1 << 10 | 1 << 12,
     OF_OTHERS = 1 << 4,
-    OF_ANSWERS = ((1 << 16) - 1 - (1 << 11)) | 1 << 22,    /* an MT509 has no amount, no security, and no rule beyond 15 */
+    OF_ANSWERS = ((1 << 16) - 1 - (1 << 11)) | 1 << 22,    /* an MT509 has no amount, and no rule beyond 15 */
     OF_STAT = 7 << 8 | 1 << 22
 };
 
@@ -83,16 +80,12 @@ static const struct {
     [WRITE] = { "mt515_write", "", OF_WRITING, TENTH },
     [NEXT] = { "mt515_next", "", OF_NEXT, 1 },
     [LINES] = { "mt515_read", ", lines", OF_LINES, 1 },
-    [BESIDE] = { "mt515_read", ", wrong check digit", OF_BESIDE, TENTH },
-    [BEHIND] = { "mt515_read", ", 23 put right", OF_BEHIND, TENTH },
     [OTHERS] = { "mt515_read", ", others'", OF_OTHERS, FOURTH },
     [POOL_READ] = { "pool_read", "", OF_READING, FOURTH },
     [POOL_FIELD] = { "pool_field", "", OF_READING, FOURTH },
     [POOL_PLAIN] = { "pool_plain", "", OF_PLAIN, FOURTH },
     [POOL_NEXT] = { "pool_next", "", OF_NEXT, FOURTH },
     [POOL_LINES] = { "pool_read", ", lines", OF_LINES, 2 * FOURTH },
-    [POOL_BESIDE] = { "pool_read", ", wrong check digit", OF_BESIDE, FOURTH * TENTH },
-    [POOL_BEHIND] = { "pool_read", ", 23 put right", OF_BEHIND | 1 << 12, 2 * FOURTH * TENTH },
     [POOL_TAIL] = { "pool_read", ", 70E", OF_TAIL, 2 * FOURTH },
     [POOL_OTHERS] = { "pool_read", ", others'", OF_OTHERS, 1 },
     [MT509_READ] = { "mt509_read", "", OF_ANSWERS, FOURTH },
@@ -467,19 +460,12 @@ static void still(const uint8_t *lent, const uint8_t *bytes, size_t length, cons
         fail(what);
 }
 
-/* Where a line begins, counted from 1; at the end where there is no such line. */
-static size_t line_start(const struct bytes *message, size_t line)
+/* Whether a line, counted from 1, begins so. */
+static bool line_begins(const struct bytes *message, size_t line, const char *words)
 {
     size_t at = 0;
     for (; line > 1 && at < message->length; at++)
         line -= message->at[at] == '\n';
-    return at;
-}
-
-/* Whether a line begins so. */
-static bool line_begins(const struct bytes *message, size_t line, const char *words)
-{
-    size_t at = line_start(message, line);
     return at + strlen(words) <= message->length && memcmp(message->at + at, words, strlen(words)) == 0;
 }
 
@@ -530,50 +516,6 @@ static bool of_stat(const struct bytes *message, size_t line)
         || line_begins(message, line, ":16R:REAS") || line_begins(message, line, ":16S:REAS") || line_begins(message, line, ":16S:STAT");
 }
 
-/* Whether these are nine c of which the ninth is wrong. */
-static bool is_wrong_security(const uint8_t *nine)
-{
-    for (size_t i = 0; i < WIDTH_OF_SECURITY; i++)
-        if (!(nine[i] >= '0' && nine[i] <= '9') && !(nine[i] >= 'A' && nine[i] <= 'Z'))
-            return false;
-    return nine[WIDTH_OF_SECURITY - 1] != second_check_digit(nine);
-}
-
-/* Whether a 35B line ends in such nine, whatever stands before them. */
-static bool has_wrong_security(const struct bytes *message)
-{
-    size_t from = 0;
-    for (size_t at = 0; at < message->length; at++)
-        if (message->at[at] == '\n') {
-            size_t end = at > from && message->at[at - 1] == '\r' ? at - 1 : at;
-            if (end - from >= 5 + WIDTH_OF_SECURITY && memcmp(message->at + from, ":35B:", 5) == 0
-                && is_wrong_security(message->at + end - WIDTH_OF_SECURITY))
-                return true;
-            from = at + 1;
-        }
-    return false;
-}
-
-/* What a message that got 23 at a line gets with the right digit there: 23 came before that. */
-static int put_right(const struct tested *by, const struct bytes *message, size_t line)
-{
-    static struct bytes right;
-    union any_record record;
-    right = *message;
-    uint8_t *nine = right.at + line_start(message, line) + strlen(":35B:/US/");
-    nine[WIDTH_OF_SECURITY - 1] = second_check_digit(nine);
-    return second_read_by(by->second, right.at, right.length, &record).number;
-}
-
-/* Of the MT515 in both profiles: which numbers come up where the check digit is wrong, and which stand behind 23. */
-static void count_security(const struct tested *by, const struct bytes *message, struct answer answer)
-{
-    if (has_wrong_security(message))
-        came_up[by == &pools ? POOL_BESIDE : BESIDE][answer.number]++;
-    if (answer.number == BAD_CHECK_DIGIT)
-        came_up[by == &pools ? POOL_BEHIND : BEHIND][put_right(by, message, answer.line)]++;
-}
-
 /* Answers the number of the read. */
 static int try_message(struct chance *chance, const struct tested *by, const struct bytes *message)
 {
@@ -594,8 +536,6 @@ static int try_message(struct chance *chance, const struct tested *by, const str
     ask_others(by, lent, message->length, answer.number);
     still(lent, message->at, message->length, "the message was changed");
 
-    if (by != &answers)
-        count_security(by, message, answer);
     if (by == &pools && answer.line > 0 && line_begins(message, answer.line, ":70E::TPRO"))
         came_up[POOL_TAIL][answer.number]++;
     if (by == &answers && answer.line > 0 && of_stat(message, answer.line))

@@ -48,45 +48,13 @@ static unsigned number_of_digits(const uint8_t *at, size_t length)
     return n;
 }
 
-/* ---------------------------------------------------------------- securities, of the MT515 in both profiles */
-
-/* The value of a digit is 0 to 9, of a letter 10 to 35. */
-static unsigned value_of_c(uint8_t c) { return is_digit(c) ? c - 48u : c - 55u; }
-
-/* What one of the first eight places adds: the two decimal digits of its value, which is doubled at the places 2, 4, 6 and 8. */
-static unsigned place_adds(size_t place, uint8_t c)
-{
-    unsigned result = place % 2 == 0 ? value_of_c(c) * 2 : value_of_c(c);
-    return result / 10 + result % 10;
-}
-
-static unsigned eight_add(const uint8_t *at)
-{
-    unsigned sum = 0;
-    for (size_t place = 1; place < WIDTH_OF_SECURITY; place++)
-        sum += place_adds(place, at[place - 1]);
-    return sum;
-}
-
-/* Of nine c: the ninth is a digit, and brings the sum to a multiple of ten. */
-static bool check_digit_stands(const uint8_t *at)
-{
-    uint8_t ninth = at[WIDTH_OF_SECURITY - 1];
-    return is_digit(ninth) && (eight_add(at) + value_of_c(ninth)) % 10 == 0;
-}
-
-uint8_t second_check_digit(const uint8_t *eight)
-{
-    return (uint8_t)('0' + (10 - eight_add(eight) % 10) % 10);
-}
-
 /* ---------------------------------------------------------------- a profile */
 
 /* Every type has some of these blocks. */
 enum { TOP, GENL, LINK, CONFDET, CONFPRTY, FIA, STAT, REAS, NO_BLOCK };
 
 /* What a value is made of. */
-enum form { NO_VALUE, TEXT, FREE_TEXT, SECURITY, FUNCTION, WORD, AMOUNT, DATE, MOMENT, NARRATIVE };
+enum form { NO_VALUE, TEXT, FREE_TEXT, FUNCTION, WORD, AMOUNT, DATE, MOMENT, NARRATIVE };
 
 #define ANY_NUMBER ((size_t)-1)
 
@@ -539,7 +507,7 @@ static bool read_dkrs(const uint8_t **at, size_t *length, struct text *dkrs)
     return true;
 }
 
-/* One value, put into the record; 0, 10, 11, 12 or 23. */
+/* One value, put into the record; 0, 10, 11 or 12. */
 static int read_value(struct reading *r, const struct line *line, const uint8_t *at, size_t length)
 {
     const struct slot *slot = line->slot;
@@ -559,13 +527,6 @@ static int read_value(struct reading *r, const struct line *line, const uint8_t 
         if (length < slot->narrowest || length > slot->widest || !all_of(at, length, is_printable))
             return BAD_VALUE;
         set_free_text(value, at, length);
-        return ACCEPTED;
-    case SECURITY:
-        if (length != WIDTH_OF_SECURITY || !all_c(at, length))
-            return BAD_VALUE;
-        if (!check_digit_stands(at))
-            return BAD_CHECK_DIGIT;
-        set_text(value, at, length);
         return ACCEPTED;
     case FUNCTION:
         r->function = word_in(at, length, r->by->functions);
@@ -600,7 +561,7 @@ static size_t value_start(const struct line *line)
     return strlen(line->slot->fits[line->spelling]) - line->slot->kept + strlen(line->slot->fixed);
 }
 
-/* Numbers 10, 11, 12, 23 in one pass. */
+/* Numbers 10, 11, 12 in one pass. */
 static struct answer pass_values(struct reading *r)
 {
     const struct place *header = &r->by->places[r->by->fields + 1];
@@ -883,12 +844,6 @@ static bool text_stands(const struct text *text, size_t narrowest, size_t widest
 static bool optional_text_stands(const struct text *text, size_t narrowest, size_t widest)
 {
     return text_stands(text, 0, 0) || text_stands(text, narrowest, widest);
-}
-
-/* The security of a record: the rule of reading, but every breach of it is 18. */
-static bool security_stands(const struct text *text)
-{
-    return text_stands(text, WIDTH_OF_SECURITY, WIDTH_OF_SECURITY) && check_digit_stands(text->bytes);
 }
 
 static bool moment_stands(const struct moment *moment)

@@ -142,28 +142,12 @@ static struct answer read_all(const uint8_t *message, size_t length, union any_r
     return second_read_by(by->profile, message, length, set_wrong(record));
 }
 
-/* A message that is one piece, alone in a batch: answered as by itself, and the next position just after it. */
-static void batch_of_one(const uint8_t *name, size_t wide, const uint8_t *message, size_t length, struct answer answer,
-                         const union any_record *record)
-{
-    union any_record again;
-    struct next n = second_next_by(by->profile, message, length, 0, set_wrong(&again));
-    demand(n.state == NEXT_MESSAGE && n.answer.number == answer.number && n.answer.line == answer.line && n.position == length
-           && same(&again, record), name, wide, "batch of one");
-}
-
-/* No field, no plain form in any room, and where its end is that of a piece the same in a batch. */
-static void refused_twice(const uint8_t *name, size_t wide, const uint8_t *message, size_t length, struct answer answer,
-                          const union any_record *blank)
+static void refused_twice(const uint8_t *name, size_t wide, const uint8_t *message, size_t length)
 {
     for (unsigned f = 0; f <= by->fields + 3; f++) {
         struct stretch s = second_field_by(by->profile, message, length, f);
         demand(s.offset == 0 && s.length == 0, name, wide, "field of a refused message");
     }
-    struct written p = second_plain_by(by->profile, message, length, NULL, 0);
-    demand(p.number == answer.number && p.line == answer.line && p.length == 0, name, wide, "refused plain form without room");
-    if (answer.number > BAD_END)
-        batch_of_one(name, wide, message, length, answer, blank);
 }
 
 /* The fields of a message and of its plain form, each by itself and all at once. */
@@ -200,7 +184,7 @@ static void print_twice(const uint8_t *name, size_t wide, const uint8_t *message
     if (answer.number != ACCEPTED) {
         demand(same(&record, &blank), name, wide, "no blank record beside a refusal");
         demand(p.length == 0 && only(plain, 0, ROOM, 0xA5), name, wide, "refused plain form changed a byte");
-        refused_twice(name, wide, message, length, answer, &blank);
+        refused_twice(name, wide, message, length);
         return;
     }
     demand(p.length <= by->longest && only(plain, p.length, ROOM, 0xA5), name, wide,
@@ -220,7 +204,9 @@ static void print_twice(const uint8_t *name, size_t wide, const uint8_t *message
     demand(w.number == SHORT_BUFFER && w.line == 0 && w.length == 0 && only(second, 0, ROOM, 0x5A), name, wide, "short plain form");
 
     fields_twice(name, wide, message, length, plain, p.length);
-    batch_of_one(name, wide, message, length, answer, &record);
+    struct next n = second_next_by(by->profile, message, length, 0, set_wrong(&again));
+    demand(n.state == NEXT_MESSAGE && n.answer.number == ACCEPTED && n.position == length && same(&again, &record), name, wide,
+           "batch of one");
 }
 
 /* ---------------------------------------------------------------- input */

@@ -1,6 +1,5 @@
-/* mt515.c - our own profile of the second program, from document 01, and for the check digit of a
- * security from the page of request A4: its slots, its kinds, the narrative, what a record must be,
- * writing; and the desk's lister. */
+/* mt515.c - our own profile of the second program, from document 01: its slots, its kinds, the
+ * narrative, what a record must be, writing; and the desk's lister. */
 
 /* ---------------------------------------------------------------- the slots, in order */
 
@@ -27,7 +26,7 @@ static const struct slot our_slots[] = {
     LINE(CONFDET, ":22H::PAYM", 1, 0, "//APMT", NO_VALUE, 0, 0),
     OPEN(CONFDET, ":16R:CONFPRTY", 2, 2, CONFPRTY),
     LINE(CONFDET, ":36B::CONF", 1, 18, "//FAMT/", AMOUNT, 0, 0),
-    LINE(CONFDET, ":35B:", 1, 19, "/US/", SECURITY, 0, 0),
+    LINE(CONFDET, ":35B:", 1, 19, "/US/", TEXT, 9, 9),
     OPEN(CONFDET, ":16R:FIA", 0, 1, FIA),
     LINE(CONFDET, ":70E::TPRO", 1, 21, "//GSCC/", NARRATIVE, 0, 0),
     CLOSE(CONFDET, ":16S:CONFDET"),
@@ -132,7 +131,7 @@ static bool our_record_stands(const void *written)
         && our_party_stands(&record->buyer)
         && our_party_stands(&record->seller)
         && amount_stands(&record->par.amount)
-        && security_stands(&record->identifier)
+        && text_stands(&record->identifier, 9, 9)
         && optional_text_stands(&record->pool, 1, 9)
         && record->word >= WORD_SBOD && record->word <= WORD_STIP
         && (record->gupp_present == 0 ? record->gupp == 0

@@ -1,5 +1,5 @@
-/* pool.c - the pool netting members' profile of the second program, from the page of request A1, and for the check digit of a
- * security from that of request A4: its slots, its kinds, the narrative, what a record must be, writing. */
+/* pool.c - the pool netting members' profile of the second program, from the page of request A1: its slots, its kinds, the
+ * narrative, what a record must be, writing. */
 
 /* ---------------------------------------------------------------- the slots, in order */
 
@@ -26,7 +26,7 @@ static const struct slot pool_slots[] = {
     LINE(CONFDET, ":22H::PAYM", 1, 0, "//APMT", NO_VALUE, 0, 0),
     OPEN(CONFDET, ":16R:CONFPRTY", 2, 2, CONFPRTY),
     LINE(CONFDET, ":36B::CONF", 1, 16, "//FAMT/", AMOUNT, 0, 0),
-    LINE(CONFDET, ":35B:", 1, 17, "/US/", SECURITY, 0, 0),
+    LINE(CONFDET, ":35B:", 1, 17, "/US/", TEXT, 9, 9),
     OPEN(CONFDET, ":16R:FIA", 0, 1, FIA),
     LINE(CONFDET, ":70E::TPRO", 1, 19, "//DTCY/", NARRATIVE, 0, 0),
     CLOSE(CONFDET, ":16S:CONFDET"),
@@ -135,7 +135,7 @@ static bool pool_record_stands(const void *written)
         && pool_party_stands(&record->buyer)
         && pool_party_stands(&record->seller)
         && amount_stands(&record->par.amount)
-        && security_stands(&record->identifier)
+        && text_stands(&record->identifier, 9, 9)
         && optional_text_stands(&record->pool, 1, 9)
         && (record->cdry == 0 || record->cdry == 1)
         && (record->ddte_present == 0 ? date_is_zero(&record->ddte)

@@ -1,6 +1,5 @@
 #!/usr/bin/env python3
-"""pool.py [P] - the worked cases of request A1, section 10, some more of its section 3, the widest messages of its section 8, and
-the worked cases of request A4, section 4, on P.
+"""pool.py [P] - the worked cases of request A1, section 10, some more of its section 3, and the widest messages of its section 8.
 
 Each message stands under a line `# name`, as make.py writes them, with LF and once more with CR LF, and the name ends in the
 answer that the page wants: `,want=NUMBER@LINE`. With the word P: P alone, with LF and without a name.
@@ -64,10 +63,6 @@ def money(value):
 
 def narrative(value):
     return line(32, ':70E::TPRO//DTCY/' + value)
-
-
-def security(value):
-    return line(28, ':35B:/US/' + value)
 
 
 def kind(word):
@@ -175,31 +170,6 @@ MORE = [
 ]
 
 
-# Request A4; the 35B line of P is line 28. The page has P with 01F070634; the other rows are those that it has for B, each with the
-# line that P has for it, and some more of its order.
-MISTYPED = security('01F070634')
-SECURITIES = [('35B-' + value.replace(' ', '_'), number, 28 if number else 0, security(value)) for value, number in (
-    ('01F070633', 0), ('01F070641', 0), ('01F050650', 0), ('01F040693', 0), ('02R060670', 0), ('000000000', 0), ('ZZZZZZZZ0', 0),
-    ('037833100', 0), ('38259P508', 0), ('01F070634', 23), ('01F07063C', 23), ('01F07063D', 23), ('10F070633', 23), ('01F073063', 23),
-    ('01F070363', 23), ('WWWWWWWWW', 23), ('01F07063', 10), ('01F0706333', 10), ('01F07063 ', 10), ('01f070633', 10))]
-SECURITIES += [
-    ('35B-mistyped-behind-wrong-text', 10, 28, line(28, ':35B::US/01F070634')),
-    ('35B-mistyped-and-70E-TDSVOPTN', 23, 28, all_of(MISTYPED, narrative('TDSVOPTN'))),
-    ('35B-mistyped-and-70E-no-day', 23, 28, all_of(MISTYPED, narrative('TDSVPOOL/DDTE20230229'))),
-    ('35B-mistyped-and-pool-empty', 23, 28, all_of(MISTYPED, line(30, ':13B::POOL/DTCY/'))),
-    ('35B-mistyped-and-par-17', 11, 27, all_of(MISTYPED, line(27, ':36B::CONF//FAMT/17'))),
-    ('35B-mistyped-and-money-17', 11, 17, all_of(MISTYPED, money('USD17'))),
-    ('35B-mistyped-and-trade-20230229', 12, 14, all_of(MISTYPED, line(14, ':98C::TRAD//20230229000000'))),
-    ('35B-mistyped-and-23G-CANC', 23, 28, all_of(MISTYPED, line(7, ':23G:CANC'))),
-    ('35B-mistyped-and-no-70E', 9, 32, all_of(MISTYPED, without(32))),
-    ('35B-mistyped-and-19A-twice', 8, 18, all_of(MISTYPED, after(17, P[16]))),
-    ('35B-mistyped-and-no-LINK', 23, 28 - 3, all_of(MISTYPED, without(9, 11))),
-    ('35B-mistyped-and-LIST', 23, 28 + 3, all_of(MISTYPED, link('LIST', '1'))),
-    ('35B-mistyped-and-par-0', 23, 28, all_of(MISTYPED, line(27, ':36B::CONF//FAMT/0,'))),
-    ('35B-mistyped-and-SETT-20240228', 23, 28, all_of(MISTYPED, line(15, ':98A::SETT//20240228'))),
-]
-
-
 def message(change):
     return [text for n in range(1, 35) for text in change.get(n, [P[n - 1]])]
 
@@ -229,7 +199,7 @@ def main():
     if len(sys.argv) > 1:
         sys.exit(__doc__)
     for ending, name_of_it in (('\n', 'LF'), ('\r\n', 'CRLF')):
-        for name, number, at, change in WORKED + MORE + WIDEST + SECURITIES:
+        for name, number, at, change in WORKED + MORE + WIDEST:
             head = '# %s-%s,want=%d@%d\n' % (name, name_of_it, number, at)
             sys.stdout.buffer.write((head + ''.join(text + ending for text in message(change))).encode('ascii'))
 

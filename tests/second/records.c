@@ -1,8 +1,7 @@
 /* records.c - writing: what a record must be, the order of refusals, and that a refused write changes no byte; then the batch at
- * its ends. The same of the pool, beginning with P of request A1, and of the MT509, beginning with R of request A3; and generated
- * records of the MT509, of which it is known what they get. The check digit of request A4, in B of document 01 and in P, read and
- * written. B, P and R come from files. Prints only what fails.
- * usage: records FILE FILE FILE */
+ * its ends. The same of the pool, beginning with P of request A1, and of the MT509, beginning with R of request A3, which come
+ * from files; and generated records of the MT509, of which it is known what they get. Prints only what fails.
+ * usage: records FILE FILE */
 #include "bytes.h"
 #include "cases.h"
 
@@ -101,11 +100,9 @@ static struct written put(const struct record *r, size_t room)
     return w;
 }
 
-/* A record, changed, gets a number; without room it is 19 where it would be 0. */
-#define OUR_GETS(number_wanted, unchanged, change) do { struct record r = (unchanged); change; \
+#define GETS(number_wanted, change) do { struct record r = widest(kind); change; \
     demand(put(&r, 0).number == ((number_wanted) == 0 ? SHORT_BUFFER : (number_wanted)), #number_wanted " (no room): " #change); \
     demand(put(&r, LONGEST_WRITTEN).number == (number_wanted), #number_wanted ": " #change); } while (0)
-#define GETS(number_wanted, change) OUR_GETS(number_wanted, widest(kind), change)
 
 static void writing(void)
 {
@@ -142,12 +139,6 @@ static void writing(void)
         GETS(18, text(&r.seller.code, ""));
         GETS(18, text(&r.identifier, "01F07063"));
         GETS(18, text(&r.identifier, ""));
-        GETS(18, text(&r.identifier, "01F070634"));
-        GETS(18, text(&r.identifier, "01F07063C"));
-        GETS(18, text(&r.identifier, "10F070633"));
-        GETS(18, text(&r.identifier, "01F0706333"));
-        GETS(18, (text(&r.identifier, "01F070633"), r.identifier.bytes[9] = '3'));
-        GETS(0, text(&r.identifier, "ZZZZZZZZ0"));
         GETS(18, text(&r.pool, "ABCDEFGHIJ"));
         GETS(18, text(&r.dkrs, "ABC"));
         GETS(18, r.prep_present = 0);
@@ -341,9 +332,6 @@ static void pool_places(int kind)
     POOL_GETS(18, pool_widest(kind), text(&r.buyer.code, "001"));
     POOL_GETS(18, pool_widest(kind), text(&r.seller.contra, "ABCDEFGHIJKLMNOPQ"));
     POOL_GETS(18, pool_widest(kind), text(&r.identifier, ""));
-    POOL_GETS(18, pool_widest(kind), text(&r.identifier, "01F070634"));
-    POOL_GETS(18, pool_widest(kind), text(&r.identifier, "01F07063C"));
-    POOL_GETS(0, pool_widest(kind), text(&r.identifier, "01F070641"));
     POOL_GETS(18, pool_widest(kind), text(&r.pool, "ABCDEFGHIJ"));
     POOL_GETS(18, pool_widest(kind), text(&r.dkrs, "ABCDE"));
     POOL_GETS(18, pool_widest(kind), r.trade.time.hour = 24);
@@ -393,115 +381,6 @@ static void pool_writing(void)
         pool_places(kind);
         pool_kinds(kind);
     }
-}
-
-/* ---------------------------------------------------------------- the check digit of request A4 */
-
-static char b[1000];             /* with LF endings, and ended by a zero byte */
-
-/* Its record, as document 01 has it. */
-static struct record record_of_b(void)
-{
-    struct record r;
-    second_blank(&r);
-    r.kind = KIND_INST;
-    text(&r.sender, "0017");
-    text(&r.reference, "0008");
-    text(&r.mast, "0017");
-    r.trade = (struct moment){ { 2024, 2, 29 }, { 9, 30, 0 } };
-    r.settlement = (struct date){ 2024, 3, 13 };
-    r.price.amount = (struct amount){ 995, 1 };
-    r.side = SIDE_BUYI;
-    text(&r.buyer.code, "0017");
-    text(&r.seller.code, "0015");
-    r.par.amount = (struct amount){ 1000000, 0 };
-    text(&r.identifier, "01F070633");
-    r.word = WORD_STIP;
-    return r;
-}
-
-/* A message of the file with another security, which is as wide. */
-static void with_security(const char *message, const char *nine, char out[sizeof b])
-{
-    memcpy(out, message, sizeof b);
-    memcpy(strstr(out, ":35B:/US/") + strlen(":35B:/US/"), nine, WIDTH_OF_SECURITY);
-}
-
-/* What the page says of writing B's record. */
-static void of_b(void)
-{
-    struct record r = record_of_b(), read;
-    struct answer answer = second_read((const uint8_t *)b, strlen(b), &read);
-    demand(answer.number == ACCEPTED && answer.line == 0 && memcmp(&read, &r, sizeof r) == 0, "the record of B");
-    size_t length = put(&r, LONGEST_WRITTEN).length;
-    text(&r.identifier, "01F070634");
-    for (size_t room = 0; room <= length + 1; room++)
-        demand(put(&r, room).number == BAD_RECORD, "01F070634 is 18 in every room");
-    OUR_GETS(18, record_of_b(), (text(&r.identifier, "01F070634"), text(&r.mast, "")));
-    OUR_GETS(18, record_of_b(), (text(&r.identifier, "01F070634"), text(&r.list, "1")));
-    OUR_GETS(18, record_of_b(), (text(&r.identifier, "01F070634"), r.par.amount.digits = 0));
-    OUR_GETS(18, record_of_b(), (text(&r.identifier, "01F070634"), r.settlement.year = 2023));
-    OUR_GETS(0, record_of_b(), text(&r.identifier, "01F070641"));
-    POOL_GETS(18, record_of_p(), text(&r.identifier, "01F070634"));
-    POOL_GETS(18, record_of_p(), (text(&r.identifier, "01F070634"), text(&r.mast, "")));
-    POOL_GETS(0, record_of_p(), text(&r.identifier, "01F070641"));
-}
-
-/* A batch whose first piece has the wrong digit: the line inside the piece, the blank record, and the position just after it. */
-static void batch_with_23(void)
-{
-    char batch[2 * sizeof b];
-    struct record record, blank, of_second = record_of_b();
-    size_t length = strlen(b);
-    with_security(b, "01F070634", batch);
-    memcpy(batch + length, b, length);
-    memset(&record, 0x5A, sizeof record);
-    second_blank(&blank);
-    struct next n = second_next((const uint8_t *)batch, 2 * length, 0, &record);
-    demand(n.state == NEXT_MESSAGE && n.answer.number == BAD_CHECK_DIGIT && n.answer.line == 27 && n.position == length
-           && memcmp(&record, &blank, sizeof blank) == 0, "a piece with 23");
-    n = second_next((const uint8_t *)batch, 2 * length, n.position, &record);
-    demand(n.state == NEXT_MESSAGE && n.answer.number == ACCEPTED && n.position == 2 * length
-           && memcmp(&record, &of_second, sizeof record) == 0, "the piece behind one with 23");
-}
-
-/* Whether these nine c are taken, or refused as they should be, in both profiles, in reading and in writing. */
-static void is_taken(const char *nine, int taken)
-{
-    char message[sizeof b];
-    union any_record read;
-    struct record ours = record_of_b();
-    struct pool_record pools = record_of_p();
-    int number = taken ? ACCEPTED : BAD_CHECK_DIGIT;
-    with_security(b, nine, message);
-    struct answer answer = second_read_by(&second_mt515, (const uint8_t *)message, strlen(message), &read);
-    demand(answer.number == number && answer.line == (taken ? 0 : 27), nine);
-    with_security(p, nine, message);
-    answer = second_read_by(&second_pool, (const uint8_t *)message, strlen(message), &read);
-    demand(answer.number == number && answer.line == (taken ? 0 : 28), nine);
-    text(&ours.identifier, nine);
-    text(&pools.identifier, nine);
-    demand(put(&ours, LONGEST_WRITTEN).number == (taken ? ACCEPTED : BAD_RECORD), nine);
-    demand(pool_put(&pools, LONGEST_OF_POOL).number == (taken ? ACCEPTED : BAD_RECORD), nine);
-}
-
-/* Seven noughts and any c at each of the first eight places, with any c behind: one is taken, which was worked out by hand for each
- * c, where the place is not doubled and where it is. An `F` that is not doubled adds 1 + 5, and 4 is taken. */
-static void one_is_taken(void)
-{
-    static const char all[] = "0123456789" "ABCDEFGHIJ" "KLMNOPQRST" "UVWXYZ";
-    static const char ninths[2][sizeof all] = { "0987654321" "9876543210" "8765432109" "765432",
-                                                "0864297531" "8642075319" "6420853197" "420863" };
-    for (size_t at = 0; at < WIDTH_OF_SECURITY - 1; at++)
-        for (const char *c = all; *c; c++) {
-            char nine[] = "000000000", right = ninths[at % 2][c - all];
-            nine[at] = *c;
-            demand(second_check_digit((const uint8_t *)nine) == (uint8_t)right, nine);
-            for (const char *last = all; *last; last++) {
-                nine[WIDTH_OF_SECURITY - 1] = *last;
-                is_taken(nine, *last == right);
-            }
-        }
 }
 
 /* ---------------------------------------------------------------- R of request A3 */
@@ -813,8 +692,8 @@ static int take(const char *name, char *into, size_t room)
 
 int main(int count, char **words)
 {
-    if (count != 4 || !take(words[1], b, sizeof b) || !take(words[2], p, sizeof p) || !take(words[3], r_text, sizeof r_text)) {
-        fputs("usage: records FILE FILE FILE, which have B, P and R\n", stderr);
+    if (count != 3 || !take(words[1], p, sizeof p) || !take(words[2], r_text, sizeof r_text)) {
+        fputs("usage: records FILE FILE, which have P and R\n", stderr);
         return 2;
     }
     writing();
@@ -822,9 +701,6 @@ int main(int count, char **words)
     of_p();
     pool_writing();
     batch_ends(&second_pool);
-    of_b();
-    batch_with_23();
-    one_is_taken();
     fields_of_r();
     of_r();
     mt509_places();

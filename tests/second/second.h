@@ -1,8 +1,7 @@
 /* second.h - a second program for the MT515 in two profiles and for the MT509, written without
  * sight of the first program's sources: our own MT515 of four kinds, from document 01 and the
  * readings of it, the pool netting members' of six, from the page of request A1, and the
- * answers that come back, from the page of request A3. The check digit of a security, in both
- * profiles, is from the page of request A4.
+ * answers that come back, from the page of request A3.
  *
  * It shares no code with the first program; it exists to be compared with it.
  * Nothing here takes memory from the heap and nothing keeps state between calls.
@@ -24,7 +23,6 @@ enum {
     WIDEST_TEXT = 20,         /* TDID */
     WIDEST_FREE_TEXT = 35,    /* 70D of an MT509 */
     WIDEST_AMOUNT = 15,       /* fourteen digits and a comma */
-    WIDTH_OF_SECURITY = 9,    /* 35B: eight, and the check digit */
     FIELDS = 21,              /* slots with a value */
     FIELDS_OF_POOL = 19,
     FIELDS_OF_MT509 = 31,
@@ -56,8 +54,7 @@ enum {
     SHORT_BUFFER = 19,
     LONG_NARRATIVE = 20,
     PAST_THE_END = 21,
-    TOO_MANY_REASONS = 22,
-    BAD_CHECK_DIGIT = 23
+    TOO_MANY_REASONS = 22
 };
 
 /* Code words, each list in the document's order; the blank record holds the first of each.
@@ -114,7 +111,7 @@ struct record {
     int side;                    /* BUSE */
     struct party buyer, seller;
     struct par par;
-    struct text identifier;      /* 35B, whose ninth is the check digit */
+    struct text identifier;      /* 35B */
     struct text pool;            /* FIA */
     int word;                    /* TDSV */
     int gupp_present;            /* 0 or 1; GUPP 0 is present */
@@ -212,9 +209,6 @@ struct stretch second_field(const uint8_t *message, size_t length, unsigned fiel
 /* The shortest form of an amount, ended by a zero byte. */
 void second_amount_text(const struct amount *amount, char out[WIDEST_AMOUNT + 8]);
 const char *second_kind_text(int kind);
-
-/* For makers of messages: the one character that passes behind the first eight of a security, which are c. */
-uint8_t second_check_digit(const uint8_t *eight);
 
 /* The words of 25D, ended by NULL: qualifier, issuer and word. */
 extern const char *const second_statuses[STATUSES + 1];

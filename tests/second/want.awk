@@ -7,6 +7,6 @@
 }
 END {
     printf "%d messages, %d with a wanted answer, %d otherwise answered; numbers:", NR, known, wrong + 0
-    for (i = 0; i <= 23; i++) if (i in seen) printf " %d:%d", i, seen[i]
+    for (i = 0; i <= 22; i++) if (i in seen) printf " %d:%d", i, seen[i]
     print ""; exit wrong > 0
 }

@@ -71,8 +71,8 @@ module _ (class : Class) (room : ℕ) (bytes : List ℕ) (len : ℕ) where
           (λ h. and_both (widest least most h) (or-two (eqb n 0) _ (eq-eqb wrong 0 (is ∙ rw (wide least most h)))))
 
   -- absent or of 1 to so many bytes is of 0 to so many
-  up-to : (most : ℕ) → (form 0 0 || form 1 most) ≡ form 0 most
-  up-to most = alike _ _ there back
+  up_to : (most : ℕ) → (form 0 0 || form 1 most) ≡ form 0 most
+  up_to most = alike _ _ there back
     where
       there : (form 0 0 || form 1 most) ≡ true → form 0 most ≡ true
       there e =
@@ -105,7 +105,7 @@ module _ (tree : Tree) (slot_of : ℕ → Slot) (slot : ℕ) (lacking : may_lack
       let wrong : form_number (slot_of slot).form (contents x) ≡ unless (is_all class 1 most (contents x)) = rw is in
       rw lacking
       (absent-or class 20 x.bytes x.len 1 most _ _ (length_front (all_in class (contents x)) 20 0 20 x.bytes x.len) wrong
-      ∙ up-to class 20 x.bytes x.len most)
+      ∙ up_to class 20 x.bytes x.len most)
 
   pub fitted-remark : (most : ℕ) (r : Remark) → (slot_of slot).form ≡ characters Printed 1 most
       → fitted_in tree slot_of slot (remark_form 0 35 r) (remark_text r) ≡ remark_form 0 most r
@@ -114,4 +114,4 @@ module _ (tree : Tree) (slot_of : ℕ → Slot) (slot : ℕ) (lacking : may_lack
       let wrong : form_number (slot_of slot).form (remark_text r) ≡ unless (is_all Printed 1 most (remark_text r)) = rw is in
       rw lacking
       (absent-or Printed 35 r.bytes r.len 1 most _ _ (length_front (all_in Printed (remark_text r)) 35 0 35 r.bytes r.len) wrong
-      ∙ up-to Printed 35 r.bytes r.len most)
+      ∙ up_to Printed 35 r.bytes r.len most)

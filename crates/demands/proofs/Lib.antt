@@ -1,4 +1,3 @@
 pub mod Laws
 pub mod Demands
 pub mod Answers
-pub mod Before

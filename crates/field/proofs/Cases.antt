@@ -53,7 +53,7 @@ module _ (m : List ℕ) (z : (read_of m).number ≡ 0) where
 
 accepted : ((read_of (ended "\n" b)).number ≡ 0) × ((read_of (ended "\r\n" b)).number ≡ 0)
 accepted =
-    let e = read-b.records in
+    let e = read-b.1 in
     (ap (λ (r : Reading). r.number) (head-eq_of_cons-eq e), ap (λ (r : Reading). r.number) (head-eq_of_cons-eq (tail-eq_of_cons-eq e)))
 
 values : map (λ (row : ℕ × String). field_in (ended "\n" b) row.0) fields ≡ map (λ (row : ℕ × String). bytes row.1) fields

@@ -11,7 +11,6 @@ use Rattle.text.proofs.Laws.{and_left}
 use Rattle.digits.specs.Numerals as Numerals
 use Rattle.amount.specs.Amounts.{amount_read, is_amount, whole}
 use Rattle.calendar.specs.Dates.{date_read, date_from, moment_read, moment_from}
-use Rattle.security.specs.Security.{security_number}
 use Rattle.forms.specs.Forms.{value_number, form_number, unless, is_word, word_at}
 use Rattle.forms.specs.Narrative.{is_narrative}
 use Rattle.forms.proofs.Laws.{unless-good}
@@ -31,5 +30,5 @@ unfolding slot_of slots form_number is_narrative
 told-begins v h = and_left _ _ (unless-good (is_narrative v) h)
 
 pub fields : Fields mt515
-unfolding all_below Tests.is_field slot_of slots bytes begins before value_number security_number form_number unless is_code is_word word_at same amount_read is_amount whole date_read date_from moment_read moment_from Numerals.wide_number is_narrative slots_of member_slots own_slots field_slots tree general pool details has
+unfolding all_below Tests.is_field slot_of slots bytes begins before value_number form_number unless is_code is_word word_at same amount_read is_amount whole date_read date_from moment_read moment_from Numerals.wide_number is_narrative slots_of member_slots own_slots field_slots tree general pool details has
 fields = Tests.fields mt515 refl (behind-front mt515 21 1 (bytes "/TDSV") (λ slot. refl) refl told-begins)

@@ -19,10 +19,8 @@ use Rattle.text.specs.declared.Class.TheVariants.{C}
 use Rattle.text.proofs.Bools.{alike, or_case, or-one, or-two}
 use Rattle.text.proofs.Codes.{code-text, text-code}
 use Rattle.text.proofs.Laws.{and_left, and_right, and_both, text-is, contents-of, in-form-of, in-form-facts, length-contents}
-use Rattle.forms.specs.Forms.{Slot, codes, security, word_at, is_word, unless, form_number}
+use Rattle.forms.specs.Forms.{Slot, codes, word_at, is_word, unless, form_number}
 use Rattle.forms.proofs.Laws.{unless-good, word-at}
-use Rattle.security.specs.Security.{security_form}
-use Rattle.security.proofs.Laws.{security-passes, text-security}
 use Rattle.sheets.specs.Trees.{Tree}
 use Rattle.format.specs.Format.{may_lack}
 use Rattle.format.specs.Writable.{fitted, fitted_in, hold}
@@ -82,14 +80,6 @@ narrowed least most low high x e l m =
 pub widest : (least most : ℕ) (x : Text) → text_form least most x ≡ true → text_form 0 20 x ≡ true
 widest least most x e = narrowed 0 20 least most x e (omega arith) (in-form-facts least most x e).1
 
-code-form : (least most : ℕ) (x : Text) → text_form 0 20 x ≡ true → is_code least most (contents x) ≡ true → text_form least most x ≡ true
-unfolding is_code
-code-form least most x h e =
-    let n = length-contents 0 20 x h in
-    let l = leb-true least (length (contents x)) (and_left _ _ e) in
-    let m = leb-true (length (contents x)) most (and_left _ _ (and_right (leb least (length (contents x))) _ e)) in
-    narrowed least most 0 20 x h (omega arith) (omega arith)
-
 pub no-contents : (x : Text) → x.len ≡ 0 → contents x ≡ []
 unfolding contents
 no-contents x e = rw e
@@ -101,16 +91,6 @@ module _ (tree : Tree) (slot_of : ℕ → Slot) where
   unfolding fitted
   fitted-form slot x e = and_left _ _ e
 
-  fitted-value : (slot : ℕ) (x : Text) → may_lack tree slot ≡ false → fitted tree slot_of slot x ≡ true → form_number (slot_of slot).form (contents x) ≡ 0
-  unfolding fitted
-  fitted-value slot x o e =
-      or_case (may_lack tree slot && eqb x.len 0) _ (and_right (text_form 0 20 x) _ e)
-      (λ a. absurd (true≢false (sym (and_left (may_lack tree slot) _ a) ∙ o))) (λ z. eqb-true _ _ z)
-
-  value-fitted : (slot : ℕ) (x : Text) → text_form 0 20 x ≡ true → form_number (slot_of slot).form (contents x) ≡ 0 → fitted tree slot_of slot x ≡ true
-  unfolding fitted
-  value-fitted slot x h z = and_both h (or-two (may_lack tree slot && eqb x.len 0) _ (eq-eqb _ _ z))
-
   -- where the slot takes so many c this is the width of the text, or of an optional one that it is absent or of that width
   module _ (slot least most : ℕ) (x : Text) (is : (slot_of slot).form ≡ codes least most) where
     coded : is_code least most (contents x) ≡ true → form_number (slot_of slot).form (contents x) ≡ 0
@@ -118,21 +98,28 @@ module _ (tree : Tree) (slot_of : ℕ → Slot) where
     coded e = rw (is, e)
 
     uncoded : text_form 0 20 x ≡ true → form_number (slot_of slot).form (contents x) ≡ 0 → text_form least most x ≡ true
-    unfolding form_number
-    uncoded h z = code-form least most x h (unless-good (is_code least most (contents x)) (rw is at z))
+    unfolding form_number is_code
+    uncoded h z =
+        let e = unless-good (is_code least most (contents x)) (rw is at z) in
+        let n = length-contents 0 20 x h in
+        let l = leb-true least (length (contents x)) (and_left _ _ e) in
+        let m = leb-true (length (contents x)) most (and_left _ _ (and_right (leb least (length (contents x))) _ e)) in
+        narrowed least most 0 20 x h (omega arith) (omega arith)
 
     pub fitted-must : may_lack tree slot ≡ false → fitted tree slot_of slot x ≡ text_form least most x
-    fitted-must o =
-        alike _ _ (λ e. uncoded (fitted-form slot x e) (fitted-value slot x o e))
-        (λ e. value-fitted slot x (widest least most x e) (coded (text-code least most x e)))
+    unfolding fitted
+    fitted-must o = alike _ _ there back
+      where
+        there : fitted tree slot_of slot x ≡ true → text_form least most x ≡ true
+        there e =
+            let h = and_left (text_form 0 20 x) _ e in
+            or_case (may_lack tree slot && eqb x.len 0) _ (and_right (text_form 0 20 x) _ e)
+            (λ a. absurd (true≢false (sym (and_left (may_lack tree slot) _ a) ∙ o))) (λ z. uncoded h (eqb-true _ _ z))
 
-  -- where it takes a security, whether the text is one
-  pub fitted-security : (slot : ℕ) (x : Text) → (slot_of slot).form ≡ security → may_lack tree slot ≡ false → fitted tree slot_of slot x ≡ security_form x
-  unfolding form_number security_form
-  fitted-security slot x is o =
-      alike _ _
-      (λ e. let p = security-passes (contents x) (rw is at (fitted-value slot x o e)) in and_both (code-form 9 9 x (fitted-form slot x e) p.0) p.1)
-      (λ e. value-fitted slot x (widest 9 9 x (and_left _ _ e)) (rw is (text-security x e)))
+        back : text_form least most x ≡ true → fitted tree slot_of slot x ≡ true
+        back e =
+            let z = eq-eqb (form_number (slot_of slot).form (contents x)) 0 (coded (text-code least most x e)) in
+            and_both (widest least most x e) (or-two (may_lack tree slot && eqb x.len 0) _ z)
 
   pub fitted-may : (slot most : ℕ) (x : Text) → (slot_of slot).form ≡ codes 1 most → may_lack tree slot ≡ true → fitted tree slot_of slot x ≡ text_form 0 most x
   unfolding fitted

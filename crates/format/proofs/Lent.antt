@@ -19,7 +19,7 @@ use Rattle.stretches.specs.Stretches.{slot_count, between, stretch_of}
 use Rattle.amount.specs.Amounts.{is_amount, meaning, amount_read, amount_number, shortest_of}
 use Rattle.amount.specs.declared.AmountRead.TheVariants.{Good, Wrong}
 use Rattle.amount.proofs.Shortening.{lies_within, shortest_in, shortest-tidy, shortest-none}
-use Rattle.forms.specs.Forms.{Form, nothing, codes, characters, words, amount, date, moment, narrative, pool_narrative, security, other, form_number}
+use Rattle.forms.specs.Forms.{Form, nothing, codes, characters, words, amount, date, moment, narrative, pool_narrative, other, form_number}
 use Rattle.sheets.specs.Trees.{table_of}
 use Rattle.sheets.specs.Slots.{slots_of}
 use Rattle.sheets.specs.Sheets.{has}
@@ -111,7 +111,6 @@ short-form date v h e = absurd (true≢false (sym h))
 short-form moment v h e = absurd (true≢false (sym h))
 short-form narrative v h e = absurd (true≢false (sym h))
 short-form pool_narrative v h e = absurd (true≢false (sym h))
-short-form security v h e = absurd (true≢false (sym h))
 short-form other v h e = absurd (true≢false (sym h))
 
 -- what is asked of a message type: every slot has its place, these slots and no others have amounts, and a record has nothing for a

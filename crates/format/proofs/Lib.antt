@@ -34,4 +34,3 @@ pub mod Taken
 pub mod Moved
 pub mod Profiles
 pub mod OtherForm
-pub mod Before

@@ -1,13 +1,13 @@
 -- The numbers that an answer of any message type can have: each pass has its own, and the first pass that refuses decides.
 -- Assumes nothing.
-use Prim.Native.Nat.{ℕ, zero, suc, ◌≤◌}
+use Prim.Native.Nat.{ℕ, suc, ◌≤◌}
 use native.Mathlib.Omega.{arith}
 use mathlib.Core.Path.{◌≡◌, refl}
 use mathlib.Core.Bool.{Bool, true, false, ◌&&◌, ◌||◌, not, cond}
 use mathlib.Core.List.{List, [], ◌∷◌}
 use lib.Dec.{leb, ltb, eqb}
 use lib.ListN.{length, drop, get_or}
-use borrow.Author.Tests.{leb-true, le-leb, not-true}
+use borrow.Author.Tests.{leb-true}
 use Rattle.text.specs.Bytes.{bytes, begins, same}
 use Rattle.lines.specs.Verdicts.{refused, pass, then, when}
 use Rattle.lines.specs.Lines.{lines_of, ended, may_stand, size_pass, byte_pass, end_pass, lines_pass}
@@ -18,19 +18,16 @@ use Rattle.amount.specs.declared.AmountRead.{AmountRead}
 use Rattle.calendar.specs.Dates.{date_read, date_number, moment_read, moment_number}
 use Rattle.calendar.specs.declared.DateRead.{DateRead}
 use Rattle.calendar.specs.declared.MomentRead.{MomentRead}
-use Rattle.forms.specs.Forms.{Form, nothing, codes, characters, words, amount, date, moment, narrative, pool_narrative, security, other, Slot, is_word, unless, form_number, value_number}
+use Rattle.forms.specs.Forms.{Form, nothing, codes, characters, words, amount, date, moment, narrative, pool_narrative, other, Slot, is_word, unless, form_number, value_number}
 use Rattle.text.specs.Classes.{is_all, is_code}
 use Rattle.forms.specs.Narrative.{is_narrative}
-use Rattle.forms.specs.Notation.{slot}
-use Rattle.security.specs.Security.{is_checked, security_number}
 use Rattle.forms.specs.Pool.{has_delivery, delivery_in, is_pool_shape, pool_number}
 use Rattle.layout.specs.Layout.{Taken, Run, refused_at, taken}
 use Rattle.sheets.proofs.Moves.{bars_pass, NumberedRun, numbered}
-use Rattle.text.proofs.Bools.{of-both}
-use Rattle.text.proofs.Laws.{and_left, and_right}
+use Rattle.text.proofs.Bools.{of-both, or_case}
 use Rattle.walk.specs.Walk.{value_verdict, values_pass, body_pass}
 use Rattle.reader.specs.Header.{head_verdict, head_pass}
-use Rattle.format.specs.Format.{Format, every}
+use Rattle.format.specs.Format.{Format}
 use Rattle.format.specs.Reading.{body_of, rules_of, verdict_of}
 use Rattle.format.specs.Writing.{message_of, judge_of, write_number}
 use Rattle.format.specs.Plain.{plain_of}
@@ -47,12 +44,9 @@ either P b h k = of-both P b (λ _. h) (λ _. k)
 abbrev pub Few : ℕ → Verdict → Type 0
 Few most v = v.number ≤ most
 
-pub then-either : (P : Verdict → Type 0) (v w : Verdict) → P v → P w → P (then v w)
-unfolding then
-then-either P v w h k = either P (eqb v.number 0) k h
-
 pub then-few : (most : ℕ) (v w : Verdict) → Few most v → Few most w → Few most (then v w)
-then-few most = then-either (Few most)
+unfolding then
+then-few most v w h k = either (Few most) (eqb v.number 0) k h
 
 -- ---- 1 to 4
 
@@ -124,7 +118,7 @@ nest-few n blocks [] = few _ _ refl
 nest-few n blocks (l ∷ ls) =
     follow-few n (turn (role_of l) blocks (name_of l)) (λ next. nest (suc n) next ls) (turn-few l blocks) (λ next. nest-few (suc n) next ls)
 
--- ---- 10 to 12, and 23
+-- ---- 10 to 12
 
 abbrev FewOf : ℕ → Type 0
 FewOf n = n ≤ 12
@@ -149,83 +143,50 @@ pool-few : (v : List ℕ) → FewOf (pool_number v)
 unfolding pool_number
 pool-few v = either FewOf (is_pool_shape v) (either FewOf (has_delivery v) (date-few (date_read (delivery_in v))) (few _ _ refl)) (few _ _ refl)
 
--- 23 is that of a security alone
-unfoldable pub is_security : Form → Bool
-is_security nothing = false
-is_security (codes least most) = false
-is_security (characters class least most) = false
-is_security (words ws) = false
-is_security amount = false
-is_security date = false
-is_security moment = false
-is_security narrative = false
-is_security pool_narrative = false
-is_security security = true
-is_security other = false
+form-few : (form : Form) (v : List ℕ) → FewOf (form_number form v)
+unfolding form_number
+form-few nothing v = unless-few (eqb (length v) 0)
+form-few (codes least most) v = unless-few (is_code least most v)
+form-few (characters class least most) v = unless-few (is_all class least most v)
+form-few (words ws) v = unless-few (is_word ws v)
+form-few amount v = amount-few (amount_read v)
+form-few date v = date-few (date_read v)
+form-few moment v = moment-few (moment_read v)
+form-few narrative v = unless-few (is_narrative v)
+form-few pool_narrative v = pool-few v
+form-few other v = few _ _ refl
 
-pub none-secure : (ss : List Slot) (i : ℕ) → every (λ s. not (is_security s.form)) ss ≡ true → is_security (get_or ss i (slot "" other)).form ≡ false
-unfolding every is_security
-none-secure [] i e = refl
-none-secure (s ∷ ss) zero e = not-true _ (and_left _ _ e)
-none-secure (s ∷ ss) (suc i) e = none-secure ss i (and_right (not (is_security s.form)) _ e)
+number-few : (slot : Slot) (v : List ℕ) → FewOf (value_number slot v)
+unfolding value_number
+number-few slot v = either FewOf (begins slot.fixed v) (form-few slot.form (drop (length slot.fixed) v)) (few _ _ refl)
 
--- ---- of a test that the numbers up to 12 pass
+values-few : (slot_of : ℕ → Slot) (ts : List Taken) → Few 12 (values_pass slot_of ts)
+unfolding values_pass value_verdict pass refused
+values-few slot_of [] = few _ _ refl
+values-few slot_of (t ∷ ts) =
+    then-few 12 (value_verdict slot_of t) (values_pass slot_of ts)
+    (either (Few 12) (eqb (value_number (slot_of t.slot) t.value) 0) (few _ _ refl) (number-few (slot_of t.slot) t.value))
+    (values-few slot_of ts)
 
-module _ (test : ℕ → Bool) (low : (n : ℕ) → n ≤ 12 → test n ≡ true) where
-  abbrev Passes : ℕ → Type 0
-  Passes n = test n ≡ true
+-- ---- 8, 9 and those of the layout's bars, and then these
 
-  abbrev Passed : Verdict → Type 0
-  Passed v = Passes v.number
-
-  number-of-security : (v : List ℕ) → Passes 23 → Passes (security_number v)
-  unfolding security_number
-  number-of-security v t = either Passes (is_code 9 9 v) (either Passes (is_checked v) (low _ (few _ _ refl)) t) (low _ (few _ _ refl))
-
-  form-passes : (form : Form) (v : List ℕ) → (is_security form ≡ true → Passes 23) → Passes (form_number form v)
-  unfolding form_number is_security
-  form-passes nothing v t = low _ (unless-few (eqb (length v) 0))
-  form-passes (codes least most) v t = low _ (unless-few (is_code least most v))
-  form-passes (characters class least most) v t = low _ (unless-few (is_all class least most v))
-  form-passes (words ws) v t = low _ (unless-few (is_word ws v))
-  form-passes amount v t = low _ (amount-few (amount_read v))
-  form-passes date v t = low _ (date-few (date_read v))
-  form-passes moment v t = low _ (moment-few (moment_read v))
-  form-passes narrative v t = low _ (unless-few (is_narrative v))
-  form-passes pool_narrative v t = low _ (pool-few v)
-  form-passes security v t = number-of-security v (t refl)
-  form-passes other v t = low _ (few _ _ refl)
-
-  number-passes : (s : Slot) (v : List ℕ) → (is_security s.form ≡ true → Passes 23) → Passes (value_number s v)
-  unfolding value_number
-  number-passes s v t = either Passes (begins s.fixed v) (form-passes s.form (drop (length s.fixed) v) t) (low _ (few _ _ refl))
-
-  module _ (slot_of : ℕ → Slot) (secure : (s : ℕ) → is_security (slot_of s).form ≡ true → Passes 23) where
-    values-pass : (ts : List Taken) → Passed (values_pass slot_of ts)
-    unfolding values_pass value_verdict pass refused
-    values-pass [] = low _ (few _ _ refl)
-    values-pass (t ∷ ts) =
-        then-either Passed (value_verdict slot_of t) (values_pass slot_of ts)
-        (either Passed (eqb (value_number (slot_of t.slot) t.value) 0) (low _ (few _ _ refl)) (number-passes (slot_of t.slot) t.value (secure t.slot)))
-        (values-pass ts)
-
-    -- 8, 9 and those of the layout's bars, and then these
-    body-passes : (run : Run) → NumberedRun test run → Passed (body_pass slot_of run)
-    unfolding body_pass refused
-    body-passes (refused_at number line) k = k
-    body-passes (taken ts) k = values-pass ts
-
--- the numbers up to one that is 12 or more
+-- a test that numbers from 12 on may pass
 unfoldable pub up_to : ℕ → ℕ → Bool
-up_to most n = leb n most
+up_to most n = leb n 12 || leb n most
 
-pub low_up : (most : ℕ) → 12 ≤ most → (n : ℕ) → n ≤ 12 → up_to most n ≡ true
+up-8 : (most : ℕ) → up_to most 8 ≡ true
 unfolding up_to
-low_up most h n k = le-leb n most (omega arith)
+up-8 most = refl
 
-pub up-to : (most n : ℕ) → up_to most n ≡ true → n ≤ most
+up-9 : (most : ℕ) → up_to most 9 ≡ true
 unfolding up_to
-up-to most n e = leb-true n most e
+up-9 most = refl
+
+body-few : (most : ℕ) → 12 ≤ most → (slot_of : ℕ → Slot) (run : Run) → NumberedRun (up_to most) run → Few most (body_pass slot_of run)
+unfolding body_pass refused up_to
+body-few most h slot_of (refused_at number line) k =
+    or_case (leb number 12) (leb number most) k (λ e. omega (arith, leb-true number 12 e)) (leb-true number most)
+body-few most h slot_of (taken ts) k = let few = values-few slot_of ts in omega arith
 
 -- ---- and all of them together
 
@@ -236,26 +197,22 @@ when-few true n most h = h
 when-few false n most h = omega arith
 
 module _ (F : Format) where
-  -- a read has a number of 1 to 12, or 23 where a slot takes a security, or one of its layout's bars or of its rules
-  pub read-passes : (test : ℕ → Bool) → ((n : ℕ) → n ≤ 12 → test n ≡ true) → bars_pass test F.tree ≡ true
-      → ((s : ℕ) → is_security (F.slot_of s).form ≡ true → test 23 ≡ true)
-      → ((value : ℕ → List ℕ) (r : F.Held) → test (F.read_rules value r).number ≡ true)
-      → (m : List ℕ) → test (verdict_of F m).number ≡ true
+  -- a read has a number of 1 to 12, or one of its layout's bars or of its rules
+  pub read-few : (most : ℕ) → 12 ≤ most → bars_pass (up_to most) F.tree ≡ true → ((value : ℕ → List ℕ) (r : F.Held) → Few most (F.read_rules value r)) → (m : List ℕ) → Few most (verdict_of F m)
   unfolding verdict_of rules_of head_pass nest_pass body_of
-  read-passes test low b t k m =
-      let P : Verdict → Type 0 = λ v. test v.number ≡ true in
-      then-either P (lines_pass m) _ (low _ (lines-few m))
-      (then-either P (head_pass F.slot_of F.header m) _ (low _ (header-few F.slot_of 1 F.header (lines_of m)))
-      (then-either P (nest_pass m) _ (low _ (nest-few 5 [] (drop 4 (lines_of m))))
-      (then-either P (body_pass F.slot_of (body_of F m)) _
-      (body-passes test low F.slot_of t (body_of F m) (numbered test (low 8 (few _ _ refl)) (low 9 (few _ _ refl)) F.tree 5 (drop 4 (lines_of m)) b))
+  read-few most h b k m =
+      let up : (n : ℕ) → n ≤ 12 → n ≤ most = λ n few. omega arith in
+      then-few most (lines_pass m) _ (up _ (lines-few m))
+      (then-few most (head_pass F.slot_of F.header m) _ (up _ (header-few F.slot_of 1 F.header (lines_of m)))
+      (then-few most (nest_pass m) _ (up _ (nest-few 5 [] (drop 4 (lines_of m))))
+      (then-few most (body_pass F.slot_of (body_of F m)) _ (body-few most h F.slot_of (body_of F m) (numbered (up_to most) (up-8 most) (up-9 most) F.tree 5 (drop 4 (lines_of m)) b))
       (k _ _))))
 
   -- a plain form 19 besides
-  pub plain-has : (P : ℕ → Type 0) → P 0 → P 19 → (m : List ℕ) (room : ℕ) → P (verdict_of F m).number → P (ask_verdict F m room).number
+  pub plain-few : (most : ℕ) → 19 ≤ most → (m : List ℕ) (room : ℕ) → Few most (verdict_of F m) → Few most (ask_verdict F m room)
   unfolding ask_verdict room_pass pass refused
-  plain-has P none short m room k =
-      then-either (λ (v : Verdict). P v.number) (verdict_of F m) (room_pass F m room) k (either (λ (v : Verdict). P v.number) (ltb room (length (plain_of F m))) short none)
+  plain-few most h m room k =
+      then-few most (verdict_of F m) (room_pass F m room) k (either (Few most) (ltb room (length (plain_of F m))) h (omega arith))
 
   -- and a write 18, 19, or one of its rules'
   pub write-few : (most : ℕ) → 19 ≤ most → ((r : F.Held) → Few most (F.write_rules r)) → (r : F.Held) (room : ℕ) → write_number F r room ≤ most

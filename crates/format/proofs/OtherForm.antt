@@ -1,17 +1,16 @@
 -- Two message types that differ in the form of one slot, and in the test of records: the passes before the values look at no form but those
--- of the header, a slot has one line at most, the first faulty line decides, and all else rests on fixed texts, which are the same.
+-- of the header, a slot has one line at most, and all else rests on fixed texts, which are the same.
 -- Assumes nothing.
 use Prim.Native.Nat.{ℕ, suc}
 use mathlib.Core.Path.{◌≡◌, refl, ap, fun_ext, ◌∙◌}
 use mathlib.Core.Bool.{Bool, true, false, not, cond}
 use mathlib.Core.List.{List, [], ◌∷◌}
-use mathlib.Core.Logic.{◌⊎◌, inl, inr}
 use lib.Dec.{eqb}
 use lib.ListN.{length, drop, get_or}
-use borrow.Author.Tests.{eqb-true, ne_eqb}
-use Rattle.text.specs.Bytes.{bytes, begins}
+use borrow.Author.Tests.{eqb-true}
+use Rattle.text.specs.Bytes.{bytes}
 use Rattle.text.proofs.Bools.{or_left, or_right}
-use Rattle.lines.specs.Verdicts.{refused, then, when}
+use Rattle.lines.specs.Verdicts.{then, when}
 use Rattle.lines.specs.Lines.{lines_of, lines_pass}
 use Rattle.lines.specs.declared.Verdict.{Verdict}
 use Rattle.blocks.specs.Blocks.{nest_pass}
@@ -32,7 +31,7 @@ use Rattle.format.specs.Plain.{plain_lines, plain_of}
 use Rattle.format.specs.Asking.{room_pass, ask_verdict, ask_length, asked_over}
 use Rattle.format.specs.Field.{asked, line_for, front_of, field_of, span_in}
 use Rattle.format.specs.Outline.{line_start, line_end, start_in, end_in, starts_in, ends_in}
-use Rattle.format.specs.OtherForm.{with_form, value_for, SameAnswers, AsWith, SameUnless, SameWrites, WrittenAsWith}
+use Rattle.format.specs.OtherForm.{with_form, value_for, SameAnswers, AsWith, SameWrites, WrittenAsWith}
 use Rattle.format.proofs.Laws.{Layout}
 use Rattle.format.proofs.Said.{said-is}
 use Rattle.format.proofs.Accepting.{Cut, cut}
@@ -45,16 +44,6 @@ then_same v w x h = on (eqb v.number 0) refl
     on : (b : Bool) → eqb v.number 0 ≡ b → cond b w v ≡ cond b x v
     on true e = h (eqb-true v.number 0 e)
     on false e = refl
-
--- a number that does not come from a pass and what follows it does not come from what follows it
-then-unless : (n : ℕ) (v w x : Verdict) → ((then v w).number ≡ n → ⊥) → ((w.number ≡ n → ⊥) → w ≡ x) → then v w ≡ then v x
-unfolding then
-then-unless n v w x k h = then_same v w x (λ z. h (λ e. k (rw z e)))
-
--- and one that comes from a pass comes from both
-then-own : (n : ℕ) → (n ≡ 0 → ⊥) → (v w : Verdict) → v.number ≡ n → (then v w).number ≡ n
-unfolding then
-then-own n some v w e = rw (e, ne_eqb n 0 some)
 
 module _ (F : Format) (slot : ℕ) (form : Form) (in_form : F.Held → Bool) where
   abbrev G : Format
@@ -125,109 +114,8 @@ module _ (F : Format) (slot : ℕ) (form : Form) (in_form : F.Held → Bool) whe
       on ih true e q = line_same s n v _ _ (number-own s v e q) (values-apart es (suc n) (rw (eqb-true s slot e) at h.0))
       on ih false e q = line_same s n v _ _ (number-apart s v e) (ih q)
 
-  -- a line's verdict by its number
-  verdict-like : (t : Taken) → value_number (F.slot_of t.slot) t.value ≡ value_number (G.slot_of t.slot) t.value → value_verdict F.slot_of t ≡ value_verdict G.slot_of t
-  unfolding value_verdict
-  verdict-like t e = rw e
-
-  verdict-own : (n : ℕ) → (n ≡ 0 → ⊥) → (t : Taken) → value_number (F.slot_of t.slot) t.value ≡ n → (value_verdict F.slot_of t).number ≡ n
-  unfolding value_verdict refused
-  verdict-own n some t e = rw (e, ne_eqb n 0 some)
-
-  -- a line of the slot whose fixed text is wrong gets 10 from both
-  own : (n s : ℕ) (v : List ℕ) → eqb s slot ≡ true
-      → (form_number (F.slot_of slot).form (drop (length (F.slot_of slot).fixed) v) ≡ n) ⊎ Alike (drop (length (F.slot_of slot).fixed) v)
-      → (value_number (F.slot_of s) v ≡ n) ⊎ (value_number (F.slot_of s) v ≡ value_number (G.slot_of s) v)
-  unfolding value_number
-  own n s v e (inr a) = inr (number-own s v e a)
-  own n s v e (inl h) = on (begins (F.slot_of slot).fixed v) refl
-    where
-      on : (b : Bool) → begins (F.slot_of slot).fixed v ≡ b → (value_number (F.slot_of s) v ≡ n) ⊎ (value_number (F.slot_of s) v ≡ value_number (G.slot_of s) v)
-      on true q = inl (rw (eqb-true s slot e, q) h)
-      on false q = inr (rw (eqb-true s slot e, q))
-
-  -- ---- every answer, where the verdict is the same
-
-  value_same : (m : List ℕ) → value_on F m (taken_in (body_of F m)) ≡ value_on G m (taken_in (body_of F m))
-  value_same m = values-are m (taken_in (body_of F m))
-
-  rules-same : (m : List ℕ) → rules_of F (value_on F m (taken_in (body_of F m))) ≡ rules_of G (value_on G m (taken_in (body_of F m)))
-  unfolding rules_of
-  rules-same m = ap (rules_of F) (value_same m)
-
-  module _ (m : List ℕ) (verdict-same : verdict_of F m ≡ verdict_of G m) where
-    read_same : read_of F m ≡ read_of G m
-    unfolding read_of body_of
-    read_same = rw (← verdict-same) (ap (λ (value : ℕ → List ℕ). reading F.blank (verdict_of F m) (F.record_of value)) (value_same m))
-
-    plain-same : plain_of F m ≡ plain_of G m
-    unfolding plain_of plain_lines
-    plain-same = refl
-
-    ask-same : (room : ℕ) → ask_verdict F m room ≡ ask_verdict G m room
-    unfolding ask_verdict room_pass plain_of plain_lines
-    ask-same room = rw verdict-same
-
-    length-same : (room : ℕ) → ask_length F m room ≡ ask_length G m room
-    unfolding ask_length plain_of plain_lines
-    length-same room = rw (ask-same room)
-
-    over-same : (buf : List ℕ) → asked_over F m buf ≡ asked_over G m buf
-    unfolding asked_over plain_of plain_lines
-    over-same buf = rw (ask-same (length buf))
-
-    line-for : (s : ℕ) → line_for F m s ≡ line_for G m s
-    unfolding line_for asked body_of
-    line-for s = rw read_same
-
-    field-same : (s : ℕ) → field_of F m s ≡ field_of G m s
-    unfolding field_of front_of
-    field-same s = rw (line-for s)
-
-    span_same : (s : ℕ) → span_in F m s ≡ span_in G m s
-    unfolding span_in front_of
-    span_same s = rw (line-for s)
-
-    start-same : (k s : ℕ) → start_in F k m s ≡ start_in G k m s
-    unfolding start_in line_start
-    start-same k s = rw (read_same, span_same s)
-
-    end_same : (k s : ℕ) → end_in F k m s ≡ end_in G k m s
-    unfolding end_in line_end
-    end_same k s = rw (read_same, span_same s)
-
-    starts-same : (k : ℕ) → starts_in F k m ≡ starts_in G k m
-    unfolding starts_in
-    starts-same k = rw (fun_ext (start-same k))
-
-    ends_same : (k : ℕ) → ends_in F k m ≡ ends_in G k m
-    unfolding ends_in
-    ends_same k = rw (fun_ext (end_same k))
-
-    same-answers : SameAnswers F slot form in_form m
-    same-answers =
-        record {
-          verdict = verdict-same;
-          read = read_same;
-          plain = plain-same;
-          plain-verdict = ask-same;
-          plain-length = length-same;
-          plain-buffer = over-same;
-          field = field-same;
-          span = span_same;
-          starts = starts-same;
-          ends = ends_same;
-        }
-
-  -- ---- the header, whose slots have the same forms
-
-  module _ (apart : has F.header slot ≡ false) where
-    head-same : (m : List ℕ) → head_pass F.slot_of F.header m ≡ head_pass G.slot_of F.header m
-    unfolding head_pass
-    head-same m = heads-same 1 F.header (lines_of m) apart
-
   module _ (L : Layout F) (apart : has F.header slot ≡ false) where
-    -- ---- the passes in their order, where both forms give the slot's value the same number
+    -- ---- the passes in their order
 
     -- the lines that the layout takes are a sheet's
     run-same : (m : List ℕ) → Cut F L m → (run : Run) → body_of F m ≡ run → Alike (value_on F m (taken_in run) slot) → body_pass F.slot_of run ≡ body_pass G.slot_of run
@@ -239,59 +127,93 @@ module _ (F : Format) (slot : ℕ) (form : Form) (in_form : F.Held → Bool) whe
         rw r (values_same es 5 (comes-once l L.is-sole) said)
 
     module _ (m : List ℕ) (a : Alike (value_for F slot m)) where
+      head-same : head_pass F.slot_of F.header m ≡ head_pass G.slot_of F.header m
+      unfolding head_pass
+      head-same = heads-same 1 F.header (lines_of m) apart
+
       body_same : (lines_pass m).number ≡ 0 → (head_pass F.slot_of F.header m).number ≡ 0 → body_pass F.slot_of (body_of F m) ≡ body_pass G.slot_of (body_of F m)
       unfolding value_for
       body_same t h = run-same m (cut F L m t h) (body_of F m) refl a
 
+      value_same : value_on F m (taken_in (body_of F m)) ≡ value_on G m (taken_in (body_of F m))
+      value_same = values-are m (taken_in (body_of F m))
+
       verdict-same : verdict_of F m ≡ verdict_of G m
-      unfolding verdict_of body_of
+      unfolding verdict_of body_of rules_of
       verdict-same =
+          let rules : rules_of F (value_on F m (taken_in (body_of F m))) ≡ rules_of G (value_on G m (taken_in (body_of F m))) = ap (rules_of F) value_same in
           then_same (lines_pass m) _ _
-          (λ t. rw (← (head-same apart m))
+          (λ t. rw (← head-same)
           (then_same (head_pass F.slot_of F.header m) _ _
-          (λ h. ap (then (nest_pass m)) (rw (← (body_same t h)) (ap (then (body_pass F.slot_of (body_of F m))) (rules-same m))))))
+          (λ h. ap (then (nest_pass m)) (rw (← (body_same t h)) (ap (then (body_pass F.slot_of (body_of F m))) rules)))))
+
+      read_same : read_of F m ≡ read_of G m
+      unfolding read_of body_of
+      read_same = rw (← verdict-same) (ap (λ (value : ℕ → List ℕ). reading F.blank (verdict_of F m) (F.record_of value)) value_same)
+
+      -- ---- every answer
+
+      plain-same : plain_of F m ≡ plain_of G m
+      unfolding plain_of plain_lines
+      plain-same = refl
+
+      ask-same : (room : ℕ) → ask_verdict F m room ≡ ask_verdict G m room
+      unfolding ask_verdict room_pass plain_of plain_lines
+      ask-same room = rw verdict-same
+
+      length-same : (room : ℕ) → ask_length F m room ≡ ask_length G m room
+      unfolding ask_length plain_of plain_lines
+      length-same room = rw (ask-same room)
+
+      over-same : (buf : List ℕ) → asked_over F m buf ≡ asked_over G m buf
+      unfolding asked_over plain_of plain_lines
+      over-same buf = rw (ask-same (length buf))
+
+      line-for : (s : ℕ) → line_for F m s ≡ line_for G m s
+      unfolding line_for asked body_of
+      line-for s = rw read_same
+
+      field-same : (s : ℕ) → field_of F m s ≡ field_of G m s
+      unfolding field_of front_of
+      field-same s = rw (line-for s)
+
+      span_same : (s : ℕ) → span_in F m s ≡ span_in G m s
+      unfolding span_in front_of
+      span_same s = rw (line-for s)
+
+      start-same : (k s : ℕ) → start_in F k m s ≡ start_in G k m s
+      unfolding start_in line_start
+      start-same k s = rw (read_same, span_same s)
+
+      end_same : (k s : ℕ) → end_in F k m s ≡ end_in G k m s
+      unfolding end_in line_end
+      end_same k s = rw (read_same, span_same s)
+
+      starts-same : (k : ℕ) → starts_in F k m ≡ starts_in G k m
+      unfolding starts_in
+      starts-same k = rw (fun_ext (start-same k))
+
+      ends_same : (k : ℕ) → ends_in F k m ≡ ends_in G k m
+      unfolding ends_in
+      ends_same k = rw (fun_ext (end_same k))
+
+      same-answers : SameAnswers F slot form in_form m
+      same-answers =
+          record {
+            verdict = verdict-same;
+            read = read_same;
+            plain = plain-same;
+            plain-verdict = ask-same;
+            plain-length = length-same;
+            plain-buffer = over-same;
+            field = field-same;
+            span = span_same;
+            starts = starts-same;
+            ends = ends_same;
+          }
 
     pub as-with : AsWith F slot form in_form
-    as-with m a = same-answers m (verdict-same m a)
-
-  -- ---- the same passes, where the number that the slot's form may give alone does not come
-
-  module _ (apart : has F.header slot ≡ false) (n : ℕ) (some : n ≡ 0 → ⊥) (either : (v : List ℕ) → (form_number (F.slot_of slot).form v ≡ n) ⊎ Alike v) where
-    own-or-same : (s : ℕ) (v : List ℕ) → (value_number (F.slot_of s) v ≡ n) ⊎ (value_number (F.slot_of s) v ≡ value_number (G.slot_of s) v)
-    own-or-same s v = on (eqb s slot) refl
-      where
-        on : (b : Bool) → eqb s slot ≡ b → (value_number (F.slot_of s) v ≡ n) ⊎ (value_number (F.slot_of s) v ≡ value_number (G.slot_of s) v)
-        on true e = own n s v e (either (drop (length (F.slot_of slot).fixed) v))
-        on false e = inr (number-apart s v e)
-
-    values-unless : (ts : List Taken) → ((values_pass F.slot_of ts).number ≡ n → ⊥) → values_pass F.slot_of ts ≡ values_pass G.slot_of ts
-    unfolding values_pass
-    values-unless [] k = refl
-    values-unless (t ∷ ts) k = on (values-unless ts) (own-or-same t.slot t.value)
-      where
-        on : (((values_pass F.slot_of ts).number ≡ n → ⊥) → values_pass F.slot_of ts ≡ values_pass G.slot_of ts)
-            → (value_number (F.slot_of t.slot) t.value ≡ n) ⊎ (value_number (F.slot_of t.slot) t.value ≡ value_number (G.slot_of t.slot) t.value)
-            → then (value_verdict F.slot_of t) (values_pass F.slot_of ts) ≡ then (value_verdict G.slot_of t) (values_pass G.slot_of ts)
-        on ih (inl e) = absurd (k (then-own n some _ _ (verdict-own n some t e)))
-        on ih (inr e) = rw (← (verdict-like t e)) (then-unless n _ _ _ k ih)
-
-    run-unless : (run : Run) → ((body_pass F.slot_of run).number ≡ n → ⊥) → body_pass F.slot_of run ≡ body_pass G.slot_of run
-    unfolding body_pass
-    run-unless (refused_at k l) h = refl
-    run-unless (taken ts) h = values-unless ts h
-
-    module _ (m : List ℕ) (k : (verdict_of F m).number ≡ n → ⊥) where
-      verdict-unless : verdict_of F m ≡ verdict_of G m
-      unfolding verdict_of body_of
-      verdict-unless =
-          then-unless n (lines_pass m) _ _ k
-          (λ h. rw (← (head-same apart m))
-          (then-unless n (head_pass F.slot_of F.header m) _ _ h
-          (λ i. then-unless n (nest_pass m) _ _ i
-          (λ j. rw (← (run-unless (body_of F m) (λ e. j (then-own n some _ _ e)))) (ap (then (body_pass F.slot_of (body_of F m))) (rules-same m))))))
-
-    pub same-unless : SameUnless F slot form in_form n
-    same-unless m k = same-answers m (verdict-unless m k)
+    as-with m a = same-answers m a
 
   -- ---- writing
 

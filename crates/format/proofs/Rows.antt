@@ -26,7 +26,7 @@ module _ (F : Format) (good : good_tree F.tree ≡ true) (m : List ℕ) where
   unfolding body_of
   rows-body = rows_take F.tree 5 (drop 4 (lines_of m)) good
 
-  -- 1 to 12 and 23, and then the rules
+  -- 1 to 12, and then the rules
   pub rows-verdict : then (pass_of (table_of F.tree) F.slot_of F.header m) (rules_of F (value_on F m (taken_in (body_of F m)))) ≡ verdict_of F m
   unfolding pass_of verdict_of
   rows-verdict =

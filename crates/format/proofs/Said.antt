@@ -30,7 +30,7 @@ use Rattle.format.proofs.Laws.{Layout}
 use Rattle.format.proofs.Heads.{head-none}
 
 module _ (F : Format) where
-  -- ---- 10, 11, 12 and 23
+  -- ---- 10, 11 and 12
 
   pub values-pass : (es : List Entry) (n : ℕ) → Valued F es → values_pass F.slot_of (taken_on n es) ≡ pass
   unfolding Valued taken_on values_pass value_verdict then pass refused

@@ -19,7 +19,7 @@ use Rattle.lines.specs.Lines.{joined}
 use Rattle.lines.specs.Verdicts.{refused, pass, then, when}
 use Rattle.amount.specs.Amounts.{amount_read, amount_number, is_amount, whole, tidy}
 use Rattle.amount.proofs.Laws.{tidy-amount, tidy-tidy}
-use Rattle.forms.specs.Forms.{Form, nothing, codes, characters, words, amount, date, moment, narrative, pool_narrative, security, other, is_word, word_at, unless, form_number, value_number}
+use Rattle.forms.specs.Forms.{Form, nothing, codes, characters, words, amount, date, moment, narrative, pool_narrative, other, is_word, word_at, unless, form_number, value_number}
 use Rattle.forms.proofs.Laws.{amount-good}
 use Rattle.forms.proofs.Widths.{longest, form_width, bounded}
 use Rattle.forms.proofs.Printing.{printed_form}
@@ -96,7 +96,6 @@ form-tidied date v h = h
 form-tidied moment v h = h
 form-tidied narrative v h = h
 form-tidied pool_narrative v h = h
-form-tidied security v h = h
 form-tidied other v h = h
 
 tidied-twice : (f : Form) (v : List ℕ) → form_number f v ≡ 0 → tidied f (tidied f v) ≡ tidied f v
@@ -111,7 +110,6 @@ tidied-twice date v h = refl
 tidied-twice moment v h = refl
 tidied-twice narrative v h = refl
 tidied-twice pool_narrative v h = refl
-tidied-twice security v h = refl
 tidied-twice other v h = refl
 
 -- ---- a list of values beside their slots

@@ -15,7 +15,7 @@ use Rattle.text.specs.Classes.{is_c, in_class, all_in, is_code}
 use Rattle.text.specs.declared.Class.TheVariants.{C}
 use Rattle.text.proofs.Laws.{and_left, and_right, and_both, same-eq, begins-append}
 use Rattle.amount.specs.Amounts.{whole, decimals, trimmed, shortened, tidy, is_amount, amount_read, amount_number}
-use Rattle.forms.specs.Forms.{Form, nothing, codes, characters, words, amount, date, moment, narrative, pool_narrative, security, other, Slot, unless, form_number, value_number}
+use Rattle.forms.specs.Forms.{Form, nothing, codes, characters, words, amount, date, moment, narrative, pool_narrative, other, Slot, unless, form_number, value_number}
 use Rattle.forms.proofs.Laws.{value-begins}
 use Rattle.sheets.specs.Trees.{Field, Member, Tree, last, line, block, group, barred}
 use Rattle.sheets.specs.Sheets.{has}
@@ -71,7 +71,6 @@ is_codes date = false
 is_codes moment = false
 is_codes narrative = false
 is_codes pool_narrative = false
-is_codes security = false
 is_codes other = false
 
 unfoldable pub no_code : List ℕ → Bool
@@ -114,7 +113,6 @@ codes-begin date z v c n h = absurd (true≢false (sym c))
 codes-begin moment z v c n h = absurd (true≢false (sym c))
 codes-begin narrative z v c n h = absurd (true≢false (sym c))
 codes-begin pool_narrative z v c n h = absurd (true≢false (sym c))
-codes-begin security z v c n h = absurd (true≢false (sym c))
 codes-begin other z v c n h = absurd (true≢false (sym c))
 
 pub never-begins : (slot : Slot) (z l : List ℕ) → foreign slot z ≡ true → value_number slot l ≡ 0 → begins z l ≡ false
@@ -145,7 +143,6 @@ is_amount_form date = false
 is_amount_form moment = false
 is_amount_form narrative = false
 is_amount_form pool_narrative = false
-is_amount_form security = false
 is_amount_form other = false
 
 -- what is no amount stays as it is
@@ -160,7 +157,6 @@ tidied-same date v h = refl
 tidied-same moment v h = refl
 tidied-same narrative v h = refl
 tidied-same pool_narrative v h = refl
-tidied-same security v h = refl
 tidied-same other v h = refl
 
 -- a tidied text has its comma
@@ -187,7 +183,6 @@ tidied-some date [] v = refl
 tidied-some moment [] v = refl
 tidied-some narrative [] v = refl
 tidied-some pool_narrative [] v = refl
-tidied-some security [] v = refl
 tidied-some other [] v = refl
 
 -- what is absent stays so
@@ -202,7 +197,6 @@ tidied-none date = refl
 tidied-none moment = refl
 tidied-none narrative = refl
 tidied-none pool_narrative = refl
-tidied-none security = refl
 tidied-none other = refl
 
 -- ---- the lines of a layout, tidied: each front is that of one amount, and no other line begins with it
@@ -301,7 +295,6 @@ row-tidied fronts slot k x h e = on slot.form (and_right (untouched fronts k) _ 
     on moment q n = as_is q
     on narrative q n = as_is q
     on pool_narrative q n = as_is q
-    on security q n = as_is q
     on other q n = as_is q
 
 pub row-bare : (fronts : List (List ℕ)) (slot : Slot) (k : List ℕ) → tidy_row fronts slot k ≡ true → tidy_line fronts (k ++ []) ≡ k ++ []

@@ -23,9 +23,8 @@ use Rattle.amount.specs.Amounts.{amount_read, amount_number, amount_text, in_for
 use Rattle.amount.specs.declared.Amount.{Amount}
 use Rattle.amount.specs.declared.AmountRead.{AmountRead}
 use Rattle.amount.proofs.Laws.{amount-round}
-use Rattle.forms.specs.Forms.{codes, characters, amount, security, unless, form_number, value_number}
+use Rattle.forms.specs.Forms.{codes, characters, amount, unless, form_number, value_number}
 use Rattle.forms.proofs.Laws.{unless-good}
-use Rattle.security.proofs.Laws.{security-text}
 use Rattle.sheets.specs.Slots.{slots_of, must_slots}
 use Rattle.sheets.specs.Sheets.{has}
 use Rattle.sheets.specs.Filled.{some}
@@ -39,7 +38,7 @@ use Rattle.format.specs.Writable.{fitted, fitted_in, hold}
 use Rattle.format.proofs.Tests.{every, every-at, number-form, no_length, tidied, tidied-none, amount-some}
 use Rattle.format.proofs.Laws.{every_slot, Layout, Filled, Held, Rests}
 use Rattle.format.proofs.Holds.{behind-filled, behind-some}
-use Rattle.format.proofs.BySlot.{Each, each_at, hold-all, no-contents, fitted-form, fitted-security, fitted-text, fitted-held}
+use Rattle.format.proofs.BySlot.{Each, each_at, hold-all, no-contents, fitted-form, fitted-text, fitted-held}
 
 -- ---- one value
 
@@ -189,14 +188,6 @@ module _ (F : Format) where
         → (fitted F.tree F.slot_of slot (text_of (value slot)) ≡ true) × (contents (text_of (value slot)) ≡ value slot)
     unfolding optional
     text-kept slot least most i is l = fitted-text F.tree F.slot_of slot least most (value slot) is l (form_of slot i)
-
-    -- a security
-    pub security-kept : (slot : ℕ) → has (every_slot F) slot ≡ true → optional F slot ≡ false → (F.slot_of slot).form ≡ security
-        → (fitted F.tree F.slot_of slot (text_of (value slot)) ≡ true) × (contents (text_of (value slot)) ≡ value slot)
-    unfolding optional form_number
-    security-kept slot i o is =
-        let t = security-text (value slot) (rw is at (must-form slot i o)) in
-        (fitted-security F.tree F.slot_of slot (text_of (value slot)) is o ∙ t.0, t.1)
 
     -- a text of a class
     pub class-kept : (slot : ℕ) (class : Class) (least most : ℕ) → has (every_slot F) slot ≡ true → (F.slot_of slot).form ≡ characters class least most → leb most 20 ≡ true

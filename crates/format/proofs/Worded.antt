@@ -11,7 +11,7 @@ use borrow.Author.Tests.{ltb-true}
 use Rattle.text.proofs.Bools.{or-one, or-two}
 use Rattle.text.proofs.Laws.{and_left, and_right, and_both}
 use Rattle.bars.specs.Bars.{Bar, surplus, only, goes_on}
-use Rattle.forms.specs.Forms.{Form, nothing, codes, characters, words, amount, date, moment, narrative, pool_narrative, security, other, Slot, word_at, is_word, form_number, value_number}
+use Rattle.forms.specs.Forms.{Form, nothing, codes, characters, words, amount, date, moment, narrative, pool_narrative, other, Slot, word_at, is_word, form_number, value_number}
 use Rattle.forms.proofs.Laws.{unless-good, value-behind, word-at}
 use Rattle.sheets.specs.Trees.{Field, Tree, last, line, block, group, barred}
 use Rattle.sheets.specs.Sheets.{has}
@@ -38,7 +38,6 @@ slot_agrees ws fixed date = false
 slot_agrees ws fixed moment = false
 slot_agrees ws fixed narrative = false
 slot_agrees ws fixed pool_narrative = false
-slot_agrees ws fixed security = false
 slot_agrees ws fixed other = false
 
 unfoldable pub bar_agrees : (ℕ → Slot) → Bar → Tree → Bool
@@ -79,7 +78,6 @@ form-goes-on ws fixed date v h z = absurd (true≢false (sym h))
 form-goes-on ws fixed moment v h z = absurd (true≢false (sym h))
 form-goes-on ws fixed narrative v h z = absurd (true≢false (sym h))
 form-goes-on ws fixed pool_narrative v h z = absurd (true≢false (sym h))
-form-goes-on ws fixed security v h z = absurd (true≢false (sym h))
 form-goes-on ws fixed other v h z = absurd (true≢false (sym h))
 
 good-agrees : (ws : List ℕ) (slot : Slot) (v : List ℕ) → slot_agrees ws slot.fixed slot.form ≡ true → value_number slot v ≡ 0 → goes_on ws v ≡ true

@@ -1,5 +1,5 @@
 -- What a glance tells of a text needs no passes: where it takes so many bytes at the front of a text, from places that are all 0, these
--- bytes are the piece at its front, 1 to 12 and 23 find nothing wrong in them, and the places are those that the passes keep. Proved in
+-- bytes are the piece at its front, 1 to 12 find nothing wrong in them, and the places are those that the passes keep. Proved in
 -- proofs/Glancing of every format with the tests of proofs/Laws.
 use Rattle.std.specs.Prelude.{ℕ, ◌≡◌, List, take, replicate}
 use Rattle.lines.specs.Verdicts.{pass}

@@ -7,7 +7,7 @@ use Rattle.format.specs.Format.{Format}
 use Rattle.format.specs.Reading.{verdict_of}
 
 module _ (F : Format) where
-  -- a message up to its values: the verdict of 1 to 12 and 23, and where the value of each slot begins and ends
+  -- a message up to its values: the verdict of 1 to 12, and where the value of each slot begins and ends
   abbrev pub taken : List ℕ → Body
   taken m = take_of (table_of F.tree) F.slot_of F.header m
 

@@ -11,7 +11,7 @@ use Rattle.format.specs.Format.{Format}
 use Rattle.format.specs.Reading.{rules_of}
 
 module _ (F : Format) where
-  -- every value has its slot's form: none of 10, 11, 12 and 23
+  -- every value has its slot's form: none of 10, 11 and 12
   unfoldable pub Valued : List Entry → Type 0
   Valued [] = Unit
   Valued (edge o ∷ es) = Valued es

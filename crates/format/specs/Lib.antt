@@ -14,7 +14,6 @@ pub mod Outline
 pub mod Batch
 pub mod Profiles
 pub mod OtherForm
-pub mod Before
 pub mod Specimen
 pub mod Changes
 pub mod Cases

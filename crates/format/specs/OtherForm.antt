@@ -1,7 +1,6 @@
 -- A message type, and the same with another form at one slot and another test of records: a message whose value for the slot gets the
--- same number from both forms gets the same answers from both types; so does one that does not get the number that only the first form
--- gives; and so does a record that both tests answer alike. Proved in proofs/OtherForm of every format with the tests of proofs/Laws, for
--- a slot that is none of its header's.
+-- same number from both forms gets the same answers from both types, and so does a record that both tests answer alike. Proved in
+-- proofs/OtherForm of every format with the tests of proofs/Laws, for a slot that is none of its header's.
 use Rattle.std.specs.Prelude.{ℕ, ◌≡◌, Bool, cond, List, eqb}
 use Rattle.forms.specs.Forms.{Form, form_number}
 use Rattle.walk.specs.Walk.{taken_in}
@@ -61,10 +60,6 @@ module _ (F : Format) (slot : ℕ) (form : Form) (in_form : F.Held → Bool) whe
   -- a message whose value gets the same number from both forms
   abbrev pub AsWith : Type 0
   AsWith = (m : List ℕ) → form_number (F.slot_of slot).form (value_for F slot m) ≡ form_number form (value_for F slot m) → SameAnswers m
-
-  -- a message that does not get the one number that the slot's own form may give where the other gives another
-  abbrev pub SameUnless : ℕ → Type 0
-  SameUnless n = (m : List ℕ) → ((verdict_of F m).number ≡ n → ⊥) → SameAnswers m
 
   -- ---- writing
 

@@ -4,7 +4,7 @@ use Rattle.std.specs.Prelude.{ℕ, cond, List, [], ◌∷◌, ◌++◌, map, len
 use Rattle.text.specs.Bytes.{begins}
 use Rattle.lines.specs.Lines.{lines_of, joined}
 use Rattle.amount.specs.Amounts.{tidy}
-use Rattle.forms.specs.Forms.{Form, nothing, codes, characters, words, amount, date, moment, narrative, pool_narrative, security, other}
+use Rattle.forms.specs.Forms.{Form, nothing, codes, characters, words, amount, date, moment, narrative, pool_narrative, other}
 use Rattle.sheets.specs.Filled.{some}
 use Rattle.sheets.specs.Plain.{in_order}
 use Rattle.format.specs.Format.{Format}
@@ -20,7 +20,6 @@ tidied date v = v
 tidied moment v = v
 tidied narrative v = v
 tidied pool_narrative v = v
-tidied security v = v
 tidied other v = v
 
 -- in an amount that stands behind a text needless noughts go

@@ -1,5 +1,5 @@
 -- Document 01, "Order in reading", of any message type: 1; 2; 3; 4; then 5, 6, 7 in one pass; then 8, 9 in one pass; then 10, 11, 12
--- and request A4's 23 in one pass; then the rules of line 0. Beside a refusal stands the blank record.
+-- in one pass; then the rules of line 0. Beside a refusal stands the blank record.
 use Rattle.std.specs.Prelude.{ℕ, cond, List, [], eqb, drop}
 use Rattle.lines.specs.Verdicts.{then}
 use Rattle.lines.specs.Lines.{lines_of, lines_pass}
@@ -34,7 +34,7 @@ module _ (F : Format) where
   unfoldable pub rules_of : (ℕ → List ℕ) → Verdict
   rules_of value = F.read_rules value (F.record_of value)
 
-  -- the order of reading: 1, 2, 3; 4; 5, 6, 7; 8, 9 and then 10, 11, 12, 23; the rules
+  -- the order of reading: 1, 2, 3; 4; 5, 6, 7; 8, 9 and then 10, 11, 12; the rules
   unfoldable pub verdict_of : List ℕ → Verdict
   verdict_of m =
       let value = value_on m (taken_in (body_of m)) in

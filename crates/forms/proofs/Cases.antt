@@ -6,7 +6,6 @@ use Rattle.text.specs.Classes.{all_in, in_class, is_c, is_hyphened, is_upper, is
 use Rattle.digits.specs.Numerals.{wide_number, number_of, numeral, numeral_from}
 use Rattle.calendar.specs.Dates.{year, month, day, leap, is_month, february, is_long, month_length, is_date, date_from, date_read}
 use Rattle.reason.specs.Reason.{has_reason, reason_in, good_reason}
-use Rattle.security.specs.Security.{worth, weighed, adds, sum_from, is_checked, security_number}
 use Rattle.forms.specs.Words.{word_at, is_word}
 use Rattle.forms.specs.Narrative.{service_in, has_period, period_in, behind_period, good_period, is_narrative}
 use Rattle.forms.specs.Pool.{has_cdr, behind_cdr, has_delivery, delivery_in, behind_delivery, is_pool_shape, pool_number}
@@ -26,8 +25,8 @@ unfolding Pool.cases bytes begins before all_in in_class is_c is_upper is_digit 
 pool-answered = refl
 
 pub characters-answered : Characters.Answered
-unfolding Characters.cases bytes all_in in_class is_c is_hyphened is_upper is_digit is_between worth weighed adds sum_from is_checked security_number is_code unless form_number form_of
-characters-answered = record { hyphens = refl; prints = refl; secures = refl; below = refl; behind = refl; unnumbered = refl }
+unfolding Characters.cases bytes all_in in_class is_c is_hyphened is_upper is_digit is_between unless form_number form_of
+characters-answered = record { hyphens = refl; prints = refl; below = refl; behind = refl; unnumbered = refl }
 
 pub held : Held
 unfolding sample values bytes begins same is_code word_at is_word unless form_number value_number reaches line_in text_in words_in form_of form_in slot_at

@@ -114,14 +114,14 @@ past_two k a b c = omega arith
 from-three : (k : ℕ) → 3 ≤ k → (k ≡ 3 → ⊥) → (k ≡ 4 → ⊥) → (k ≡ 5 → ⊥) → (k ≡ 6 → ⊥) → 7 ≤ k
 from-three k h d e f g = omega arith
 
-from-seven : (k : ℕ) → 7 ≤ k → (k ≡ 7 → ⊥) → (k ≡ 8 → ⊥) → (k ≡ 9 → ⊥) → (k ≡ 10 → ⊥) → 11 ≤ k
-from-seven k h i j l m = omega arith
+from-seven : (k : ℕ) → 7 ≤ k → (k ≡ 7 → ⊥) → (k ≡ 8 → ⊥) → (k ≡ 9 → ⊥) → 10 ≤ k
+from-seven k h i j l = omega arith
 
-pub past-ten : (k : ℕ) → (k ≡ 0 → ⊥) → (k ≡ 1 → ⊥) → (k ≡ 2 → ⊥) → (k ≡ 3 → ⊥) → (k ≡ 4 → ⊥) → (k ≡ 5 → ⊥) → (k ≡ 6 → ⊥) → (k ≡ 7 → ⊥) → (k ≡ 8 → ⊥) → (k ≡ 9 → ⊥)
-    → (k ≡ 10 → ⊥) → 11 ≤ k
-past-ten k a b c d e f g = from-seven k (from-three k (past_two k a b c) d e f g)
+pub past-nine : (k : ℕ) → (k ≡ 0 → ⊥) → (k ≡ 1 → ⊥) → (k ≡ 2 → ⊥) → (k ≡ 3 → ⊥) → (k ≡ 4 → ⊥) → (k ≡ 5 → ⊥) → (k ≡ 6 → ⊥) → (k ≡ 7 → ⊥) → (k ≡ 8 → ⊥) → (k ≡ 9 → ⊥)
+    → 10 ≤ k
+past-nine k a b c d e f g = from-seven k (from-three k (past_two k a b c) d e f g)
 
-pub no-form : (t : List ℕ) (kind least most : ℕ) (v : List ℕ) → 11 ≤ kind → 0 ≡ form_number (form_of t kind least most) v
+pub no-form : (t : List ℕ) (kind least most : ℕ) (v : List ℕ) → 10 ≤ kind → 0 ≡ form_number (form_of t kind least most) v
 unfolding form_number form_of
 no-form t kind least most v h = rw (get_or-eq_default (forms_in t least most) other h)
 

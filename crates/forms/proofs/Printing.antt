@@ -16,8 +16,7 @@ use Rattle.text.proofs.Printed.{printed, printed-append, between, all-printed, d
 use Rattle.amount.specs.Amounts.{whole, decimals, is_amount}
 use Rattle.amount.proofs.Laws.{amount-split, amount-fit}
 use Rattle.reason.proofs.Laws.{reason-printed}
-use Rattle.security.proofs.Laws.{security-passes}
-use Rattle.forms.specs.Forms.{Form, Slot, nothing, codes, characters, words, amount, date, moment, narrative, pool_narrative, security, other, word_at, is_word, form_number, value_number}
+use Rattle.forms.specs.Forms.{Form, Slot, nothing, codes, characters, words, amount, date, moment, narrative, pool_narrative, other, word_at, is_word, form_number, value_number}
 use Rattle.forms.specs.Narrative.{services, service_in, has_period, period_in, behind_period, is_narrative}
 use Rattle.forms.specs.Pool.{has_cdr, has_delivery, delivery_in, behind_delivery, pool_number}
 use Rattle.forms.proofs.Laws.{unless-good, value-behind, word-at, amount-good, date-good, moment-good}
@@ -35,7 +34,6 @@ printed_form date = true
 printed_form moment = true
 printed_form narrative = true
 printed_form pool_narrative = true
-printed_form security = true
 printed_form other = false
 
 -- ---- each form
@@ -110,7 +108,6 @@ form-printed date v p h = digits-printed v (date-good v h).0
 form-printed moment v p h = digits-printed v (moment-good v h).0
 form-printed narrative v p h = narrative-printed v (unless-good _ h)
 form-printed pool_narrative v p h = pool-printed v h
-form-printed security v p h = codes-printed v (code-all 9 9 v (security-passes v h).0)
 form-printed other v p h = let z : ◌≡◌ {A = ℕ} 0 1 = cc in absurd (omega arith)
 
 pub value-printed : (slot : Slot) (v : List ℕ) → printed_form slot.form ≡ true → printed slot.fixed ≡ true → value_number slot v ≡ 0 → printed v ≡ true

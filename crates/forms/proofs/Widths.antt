@@ -13,8 +13,7 @@ use Rattle.text.proofs.Codes.{all_most, code-most}
 use Rattle.text.proofs.Laws.{and_left}
 use Rattle.amount.specs.Amounts.{is_amount}
 use Rattle.reason.proofs.Laws.{reason_part, reason-width}
-use Rattle.security.proofs.Laws.{security-passes}
-use Rattle.forms.specs.Forms.{Form, Slot, nothing, codes, characters, words, amount, date, moment, narrative, pool_narrative, security, other, word_at, is_word, form_number, value_number}
+use Rattle.forms.specs.Forms.{Form, Slot, nothing, codes, characters, words, amount, date, moment, narrative, pool_narrative, other, word_at, is_word, form_number, value_number}
 use Rattle.forms.specs.Narrative.{service_in, has_period, period_in, behind_period, is_narrative}
 use Rattle.forms.specs.Pool.{has_cdr, has_delivery, delivery_in, behind_delivery, pool_number}
 use Rattle.forms.proofs.Laws.{unless-good, value-behind, word-at, amount-good, date-good, moment-good}
@@ -35,7 +34,6 @@ form_width date = 8
 form_width moment = 14
 form_width narrative = 24
 form_width pool_narrative = 36
-form_width security = 9
 form_width other = 0
 
 -- all forms but that which takes any text
@@ -49,7 +47,6 @@ bounded date = true
 bounded moment = true
 bounded narrative = true
 bounded pool_narrative = true
-bounded security = true
 bounded other = false
 
 -- ---- each form
@@ -132,7 +129,6 @@ form-width date v b h = let e = (date-good v h).1 in omega arith
 form-width moment v b h = let e = (moment-good v h).1 in omega arith
 form-width narrative v b h = narrative-width v (unless-good _ h)
 form-width pool_narrative v b h = pool-width v h
-form-width security v b h = code-most 9 9 v (security-passes v h).0
 form-width other v b h = let z : ◌≡◌ {A = ℕ} 0 1 = cc in absurd (omega arith)
 
 -- with the fixed text in front

@@ -1,4 +1,4 @@
--- Values of so many c or `-`, of so many bytes from 20 to 7E hex, and securities: what each of some values gets by the number of its form, in one table.
+-- Values of so many c or `-`, and of so many bytes from 20 to 7E hex: what each of some values gets by the number of its form, in one table.
 use Rattle.std.specs.Prelude.{ℕ, ◌≡◌, List, [], ◌∷◌, map}
 use Prim.Native.String.{String}
 use Rattle.text.specs.Bytes.{bytes}
@@ -31,15 +31,10 @@ cases =
     ∷ ("", 10, 10)
     ∷ []
 
--- a security with its check digit, with another, and one that is too short
-abbrev secured : List ℕ
-secured = map (λ v. form_number (form_of [] 10 0 0) (bytes v)) ("01F070633" ∷ "01F070634" ∷ "01F07063" ∷ [])
-
 -- each value gets what stands beside it; the bytes before 20 hex and behind 7E hex are neither, and a number behind these takes any text
 pub record Answered : Type 0 where
   pub hyphens : map (λ row. hyphened (bytes row.0)) cases ≡ map (λ row. row.1) cases
   pub prints : map (λ row. printed (bytes row.0)) cases ≡ map (λ row. row.2) cases
-  pub secures : secured ≡ 0 ∷ 23 ∷ 10 ∷ []
   pub below : printed (31 ∷ []) ≡ 10
   pub behind : printed (127 ∷ []) ≡ 10
-  pub unnumbered : form_number (form_of [] 11 1 35) (127 ∷ []) ≡ 0
+  pub unnumbered : form_number (form_of [] 10 1 35) (127 ∷ []) ≡ 0

@@ -1,13 +1,11 @@
--- Document 01, the numbers 10, 11 and 12, and request A4's 23: the value of a line, by its slot's fixed text and form.
+-- Document 01, the numbers 10, 11 and 12: the value of a line, by its slot's fixed text and form.
 --   10  the fixed text is wrong; in values other than 11's and 12's, width, characters or code word
 --   11  an amount is wrong in any way
 --   12  a date or time is wrong in any way
---   23  a security is nine c and its check digit is wrong, or no digit
 use Rattle.std.specs.Prelude.{ℕ, Bool, cond, List, eqb, length, drop}
 use Rattle.text.specs.Bytes.{begins}
 use Rattle.amount.specs.Amounts.{amount_read, amount_number}
 use Rattle.calendar.specs.Dates.{date_read, date_number, moment_read, moment_number}
-use Rattle.security.specs.Security.{security_number}
 use Rattle.forms.specs.Narrative.{is_narrative}
 use Rattle.forms.specs.Pool.{pool_number}
 unfoldable pub use Rattle.forms.specs.Words.{word_at, is_word}
@@ -20,7 +18,6 @@ use Rattle.text.specs.declared.Class.{Class}
 --   words           one of some words
 --   narrative       a service, and perhaps a period and a reason
 --   pool_narrative   POOL, and perhaps the word CDRY, a date and a reason
---   security        nine c, of which the ninth is the check digit of the others
 --   other           any text
 pub data Form : Type 0 where
   nothing : Form
@@ -32,7 +29,6 @@ pub data Form : Type 0 where
   moment : Form
   narrative : Form
   pool_narrative : Form
-  security : Form
   other : Form
 
 pub record Slot : Type 0 where
@@ -53,7 +49,6 @@ form_number date v = date_number (date_read v)
 form_number moment v = moment_number (moment_read v)
 form_number narrative v = unless (is_narrative v)
 form_number pool_narrative v = pool_number v
-form_number security v = security_number v
 form_number other v = 0
 
 -- all that follows a slot's qualifier

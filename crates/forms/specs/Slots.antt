@@ -5,7 +5,7 @@
 use Rattle.std.specs.Prelude.{ℕ, zero, suc, ◌+◌, ◌*◌, ◌/◌, ◌%◌, Bool, cond, List, [], ◌∷◌, leb, length, take, drop, get_or}
 use Rattle.text.specs.Bytes.{parts}
 use Rattle.text.specs.declared.Class.TheVariants.{Hyphened, Printed}
-use Rattle.forms.specs.Forms.{Form, Slot, nothing, codes, characters, words, amount, date, moment, narrative, pool_narrative, security, other}
+use Rattle.forms.specs.Forms.{Form, Slot, nothing, codes, characters, words, amount, date, moment, narrative, pool_narrative, other}
 
 -- words of four letters that stand one behind the other
 unfoldable pub words_of : List ℕ → List (List ℕ)
@@ -44,7 +44,6 @@ forms_in t least most =
     ∷ pool_narrative
     ∷ characters Hyphened least most
     ∷ characters Printed least most
-    ∷ security
     ∷ []
 
 -- any other number is a form that takes any text

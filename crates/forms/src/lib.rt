@@ -96,7 +96,6 @@ fn judge_form(slots: &[u8], line: &[u8], value: &[u8]) -> u64
         7 => pool::number(value),
         8 => judge_characters(Class::Hyphened, least, most, value),
         9 => judge_characters(Class::Printed, least, most, value),
-        10 => security::number(value),
         _ => 0,
     }
 }

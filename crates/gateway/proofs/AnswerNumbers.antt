@@ -2,22 +2,17 @@
 -- Assumes nothing.
 use Prim.Native.Nat.{ℕ, ◌≤◌}
 use native.Mathlib.Omega.{arith}
-use mathlib.Core.Path.{refl, sym, ◌∙◌}
-use mathlib.Core.Bool.{true≢false}
+use mathlib.Core.Path.{refl}
 use mathlib.Core.List.{List, [], ◌∷◌}
 use lib.ListN.{drop}
-use borrow.Author.Tests.{le-leb}
 use Rattle.lines.proofs.Rules.{chained, numbered, chained-few}
 use Rattle.pieces.specs.Pieces.{piece_of}
 use Rattle.pieces.specs.Calls.{turn_of}
 use Rattle.pieces.specs.declared.Turn.{Turn}
-use Rattle.format.specs.Format.{every}
 use Rattle.format.specs.Reading as Any
-use Rattle.format.proofs.Numbers.{few, Few, is_security, none-secure, up_to, low_up, up-to, read-passes, plain-has}
+use Rattle.format.proofs.Numbers.{few, Few, read-few, plain-few}
 use Rattle.answer.specs.declared.Answer.{Answer}
 use Rattle.answer_rules.specs.Rules.{record_pass, answer_pass}
-use Rattle.status.specs.Statuses.{statuses}
-use Rattle.answer_table.specs.Table.{slots, lines, slot_of}
 use Rattle.answer_values.specs.Mt509.{mt509}
 use Rattle.answer_values.proofs.Laid.{bars-22}
 use Rattle.mt509.specs.Reading.{read_of}
@@ -31,10 +26,7 @@ rules-few function a = chained-few 22 ((_, 13) ∷ (_, 14) ∷ (_, 15) ∷ []) r
 
 -- and 22, which is the layout's
 verdict-few : (m : List ℕ) → Few 22 (Any.verdict_of mt509 m)
-unfolding up_to slot_of slots statuses every is_security
-verdict-few m =
-    up-to 22 _
-    (read-passes mt509 (up_to 22) (low_up 22 (few _ _ refl)) bars-22 (λ slot e. absurd (true≢false (sym e ∙ none-secure lines slot refl))) (λ value a. le-leb _ 22 (rules-few (value 2) a)) m)
+verdict-few = read-few mt509 22 (few _ _ refl) bars-22 (λ value a. rules-few (value 2) a)
 
 next-few : (turn : Turn) (piece : List ℕ) → (says_of turn piece).number ≤ 22
 unfolding says_of blank_reading read_of Any.read_of Any.reading
@@ -47,6 +39,6 @@ unfolding read_of Any.read_of Any.reading next_of
 numbers =
     record {
       read = verdict-few;
-      plain = λ m room. plain-has mt509 (λ n. n ≤ 22) (few _ _ refl) (few _ _ refl) m room (verdict-few m);
+      plain = λ m room. plain-few mt509 22 (few _ _ refl) m room (verdict-few m);
       next = λ batch position. next-few (turn_of batch position) (piece_of (drop position batch));
     }

@@ -1,4 +1,3 @@
-pub mod OfReads
 pub mod Numbers
 pub mod Handing
 pub mod PoolNumbers

@@ -2,24 +2,22 @@
 -- Assumes nothing.
 use Prim.Native.Nat.{ℕ, ◌≤◌}
 use native.Mathlib.Omega.{arith}
-use mathlib.Core.Path.{◌≡◌, refl}
+use mathlib.Core.Path.{refl}
 use mathlib.Core.List.{List, [], ◌∷◌}
-use mathlib.Core.Logic.{◌⊎◌, inl, inr}
 use lib.ListN.{drop}
 use Rattle.lines.proofs.Rules.{chained, numbered, chained-few}
 use Rattle.pieces.specs.Pieces.{piece_of}
 use Rattle.pieces.specs.Calls.{turn_of}
 use Rattle.pieces.specs.declared.Turn.{Turn}
 use Rattle.format.specs.Reading as Any
-use Rattle.format.proofs.Numbers.{few, Few, then-few, read-passes, plain-has, write-few}
+use Rattle.format.proofs.Numbers.{few, Few, then-few, read-few, plain-few, write-few}
 use Rattle.trade.specs.declared.Trade.{Trade}
 use Rattle.kinds.specs.Kinds.{record_pass, kinds_pass}
 use Rattle.values.specs.Mt515.{mt515}
 use Rattle.values.proofs.Laid.{no-bars}
 use Rattle.mt515.specs.Reading.{verdict_of, read_of}
 use Rattle.batch.specs.Batch.{blank_reading, says_of, next_of}
-use Rattle.gateway.specs.Numbers.{OfRead, Numbers}
-use Rattle.gateway.proofs.OfReads.{of_read, up-to-17, of-read}
+use Rattle.gateway.specs.Numbers.{Numbers}
 
 -- ---- 13 to 17, and 20
 
@@ -33,24 +31,21 @@ rules-few t = then-few 20 _ _ (chained-few 20 ((_, 14) ∷ (_, 15) ∷ (_, 16) �
 
 -- ---- and all answers
 
-verdict-read : (m : List ℕ) → OfRead (verdict_of m).number
-unfolding of_read
-verdict-read m =
-    of-read _
-    (read-passes mt515 of_read (λ n h. up-to-17 n (omega arith)) (no-bars _) (λ slot e. refl) (λ value t. up-to-17 _ (kinds-few (value 2) t)) m)
+verdict-few : (m : List ℕ) → Few 17 (verdict_of m)
+verdict-few = read-few mt515 17 (few _ _ refl) (no-bars _) (λ value t. kinds-few (value 2) t)
 
-next-read : (turn : Turn) (piece : List ℕ) → OfRead (says_of turn piece).number ⊎ ((says_of turn piece).number ≡ 21)
+next-few : (turn : Turn) (piece : List ℕ) → (says_of turn piece).number ≤ 21
 unfolding says_of blank_reading read_of Any.read_of Any.reading
-next-read Turn.Message piece = inl (verdict-read piece)
-next-read Turn.Done piece = inl (inl (few _ _ refl))
-next-read Turn.Past piece = inr refl
+next-few Turn.Message piece = let h = verdict-few piece in omega (arith, h)
+next-few Turn.Done piece = few _ _ refl
+next-few Turn.Past piece = few _ _ refl
 
 pub numbers : Numbers
 unfolding read_of Any.read_of Any.reading next_of
 numbers =
     record {
-      read = verdict-read;
-      plain = λ m room. plain-has mt515 (λ n. OfRead n ⊎ (n ≡ 19)) (inl (inl (few _ _ refl))) (inr refl) m room (inl (verdict-read m));
+      read = verdict-few;
+      plain = λ m room. plain-few mt515 19 (few _ _ refl) m room (let h = verdict-few m in omega (arith, h));
       write = write-few mt515 20 (few _ _ refl) rules-few;
-      next = λ batch position. next-read (turn_of batch position) (piece_of (drop position batch));
+      next = λ batch position. next-few (turn_of batch position) (piece_of (drop position batch));
     }

@@ -1,6 +1,6 @@
--- Document 01, "Numbers the desk gets back", and request A4: what numbers an answer can have. A read has one of 0 to 17 or 23, a plain
--- form 19 besides, a write at most 20 and a batch's message 21 besides; so the largest is 23, and each of them is one byte of the gateway's.
-use Rattle.std.specs.Prelude.{ℕ, ◌≤◌, ◌≡◌, List, ◌⊎◌}
+-- Document 01, "Numbers the desk gets back": what numbers an answer can have. A read has one of 0 to 17, a plain form 19 besides, a
+-- write at most 20 and a batch's message at most 21; so each of them is one byte of the gateway's.
+use Rattle.std.specs.Prelude.{ℕ, ◌≤◌, List}
 use Rattle.pieces.specs.declared.Turn.{Turn}
 use Rattle.pieces.specs.declared.Turn.TheVariants.{Message, Done, Past}
 use Rattle.trade.specs.declared.Trade.{Trade}
@@ -15,12 +15,8 @@ turn_number Message = 0
 turn_number Done = 1
 turn_number Past = 2
 
--- the numbers of a read
-abbrev pub OfRead : ℕ → Type 0
-OfRead n = (n ≤ 17) ⊎ (n ≡ 23)
-
 pub record Numbers : Type 0 where
-  pub read : (m : List ℕ) → OfRead (read_of m).number
-  pub plain : (m : List ℕ) (room : ℕ) → OfRead (ask_verdict m room).number ⊎ ((ask_verdict m room).number ≡ 19)
+  pub read : (m : List ℕ) → (read_of m).number ≤ 17
+  pub plain : (m : List ℕ) (room : ℕ) → (ask_verdict m room).number ≤ 19
   pub write : (t : Trade) (room : ℕ) → write_number t room ≤ 20
-  pub next : (batch : List ℕ) (position : ℕ) → OfRead (next_of batch position).reading.number ⊎ ((next_of batch position).reading.number ≡ 21)
+  pub next : (batch : List ℕ) (position : ℕ) → (next_of batch position).reading.number ≤ 21

@@ -1,5 +1,5 @@
--- A glance at a text: how many of its first bytes are a message in which 1 to 12 and 23 find nothing wrong, and where the values stand in it.
--- What is said goes one way: where a number is told, it is so; where none is, nothing is said, and the passes have to be run.
+-- A glance at a text: how many of its first bytes are a message in which 1 to 12 find nothing wrong, and where the values stand in it. What
+-- is said goes one way: where a number is told, it is so; where none is, nothing is said, and the passes have to be run.
 use Rattle.std.specs.Prelude.{ℕ, ◌≤◌, ◌≡◌, true, List, [], ◌∷◌, ◌++◌, length, take, drop}
 use Rattle.text.specs.Bytes.{bytes}
 use Rattle.lines.specs.Verdicts.{pass}

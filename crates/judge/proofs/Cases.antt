@@ -10,7 +10,6 @@ use Rattle.digits.specs.Numerals.{digits}
 use Rattle.lines.specs.Verdicts.{refused, pass, then, when}
 use Rattle.trade.specs.Records.{nobody, never, blank_trade}
 use Rattle.kinds.specs.Kinds.{other, own, contra, stray, lacks_field, tddk_only, tddk_never, has_forbidden, record_pass}
-use Rattle.security.specs.Security.{worth, weighed, adds, sum_from, is_checked, security_number}
 use Rattle.forms.specs.Forms.{unless, form_number}
 use Rattle.sheets.specs.Slots.{field_slots, own_slots, member_slots, slots_of, first_slots, must_slots}
 use Rattle.sheets.specs.Sheets.{has}
@@ -24,8 +23,8 @@ use Rattle.values.specs.Writable.{period_form, tests, in_form}
 use Rattle.typed.specs.Prep.{prep_form}
 use Rattle.values.specs.Cases.{b}
 use Rattle.format.specs.Writing.{judge_of}
-use Rattle.judge.specs.Cases.{trade_on, trade, secured, cases, Answered}
+use Rattle.judge.specs.Cases.{trade, cases, Answered}
 
 pub answered : Answered
-unfolding b trade_on trade secured cases bytes is_between is_digit is_upper is_c in_class all_in contents text_of text_form amount_form year month day leap is_month february is_long month_length is_date is_time is_moment earlier digits refused pass then nobody never blank_trade other own contra stray lacks_field tddk_only tddk_never has_forbidden when record_pass kind_word side_word service_word period_text reason_text narrative values value_of prep_form period_form reason_form tests hold in_form judge_of fitted is_code unless worth weighed adds sum_from is_checked security_number form_number slot_of slots field_slots own_slots member_slots slots_of first_slots must_slots tree general pool details has
+unfolding b trade cases bytes is_between is_digit is_upper is_c in_class all_in contents text_of text_form amount_form year month day leap is_month february is_long month_length is_date is_time is_moment earlier digits refused pass then nobody never blank_trade other own contra stray lacks_field tddk_only tddk_never has_forbidden when record_pass kind_word side_word service_word period_text reason_text narrative values value_of prep_form period_form reason_form tests hold in_form judge_of fitted is_code unless form_number slot_of slots field_slots own_slots member_slots slots_of first_slots must_slots tree general pool details has
 answered = refl

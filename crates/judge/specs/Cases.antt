@@ -11,15 +11,15 @@ use Rattle.trade.specs.declared.Trade.{Trade}
 use Rattle.values.specs.Cases.{b}
 use Rattle.judge.specs.Judging.{judge_of}
 
--- B's record with another SEME, MAST, PREP, price (its digits and decimals), par, CUSIP, GUPP and DKRS
-unfoldable pub trade_on : Text → Text → ℕ → ℕ → ℕ → ℕ → ℕ → Text → Period → String → Trade
-trade_on seme mast date time price decimals par cusip period reason =
+-- B's record with another SEME, PREP, price (its digits and decimals), par, GUPP and DKRS
+unfoldable pub trade : Text → ℕ → ℕ → ℕ → ℕ → ℕ → Period → String → Trade
+trade seme date time price decimals par period reason =
     record {
       password = b.password;
       sender = b.sender;
       seme = seme;
       prep = record { date = record { 0 = date }; time = record { 0 = time } };
-      mast = mast;
+      mast = b.mast;
       prev = b.prev;
       list = b.list;
       trad = b.trad;
@@ -30,20 +30,12 @@ trade_on seme mast date time price decimals par cusip period reason =
       buyer = b.buyer;
       seller = b.seller;
       par = record { 0 = record { number = par; decimals = 0 } };
-      cusip = cusip;
+      cusip = b.cusip;
       pool = b.pool;
       service = b.service;
       period = period;
       reason = text_of (bytes reason);
     }
-
--- with B's MAST and CUSIP
-unfoldable pub trade : Text → ℕ → ℕ → ℕ → ℕ → ℕ → Period → String → Trade
-trade seme date time price decimals par period reason = trade_on seme b.mast date time price decimals par b.cusip period reason
-
--- with another MAST, CUSIP and par
-unfoldable pub secured : Text → Text → ℕ → Trade
-secured mast cusip par = trade_on b.seme mast 0 0 995 1 par cusip Period.Absent ""
 
 abbrev text : String → Text
 text s = text_of (bytes s)
@@ -81,14 +73,6 @@ cases =
     ∷ (trade (text "0008") 0 0 995 1 1 Period.Absent "E004", 15)
     ∷ (trade (text "0008") 0 0 995 1 1 Period.Absent "E04", 18)
     ∷ (trade (text "0008") 0 0 995 1 1 Period.Absent "E0041", 18)
-    -- CUSIP: nine c and a check digit
-    ∷ (secured (text "0017") (text "01F070641") 1, 0)
-    ∷ (secured (text "0017") (text "01F070634") 1, 18)
-    ∷ (secured (text "0017") (text "01F07063C") 1, 18)
-    ∷ (secured (text "0017") (text "01F07063") 1, 18)
-    ∷ (secured (text "") (text "01F070633") 1, 14)
-    ∷ (secured (text "") (text "01F070634") 1, 18)
-    ∷ (secured (text "0017") (text "01F070634") 0, 18)
     -- the order: 18 comes first
     ∷ (trade (text "0008") 0 0 995 1 0 Period.Absent "", 16)
     ∷ (trade (text "0008") 0 0 995 1 0 Period.Absent "E004", 15)

@@ -51,7 +51,7 @@ fn security_form(trade: Trade) -> bool
     ensures { result ≡ hold (take 4 (drop 18 (tests trade))) }
 {
     let par = trade.par.0.in_form();
-    let cusip = security::in_form(trade.cusip);
+    let cusip = trade.cusip.in_form(9, 9);
     let pool = trade.pool.in_form(0, 9);
     let days = trade.period;
     let period = period_form(days);

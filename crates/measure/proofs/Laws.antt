@@ -19,7 +19,8 @@ use Rattle.text.proofs.Laws.{and_left, and_right, and_both, all_append, same_ref
 use Rattle.text.proofs.Printed.{printed-append}
 use Rattle.amount.specs.Amounts.{is_amount, amount_read}
 use Rattle.amount.proofs.Laws.{fit-amount}
-use Rattle.forms.specs.Forms.{Form, Slot, nothing, codes, characters, words, amount, word_at, is_word, unless, form_number, value_number}
+use Rattle.forms.specs.Forms.{Form, Slot, nothing, codes, characters, words, amount, date, moment, narrative, pool_narrative, word_at, is_word, unless, form_number, value_number}
+use Rattle.forms.specs.Narrative.{is_narrative}
 use Rattle.forms.specs.Slots.{words_in, form_of, slot_at}
 use Rattle.forms.proofs.Parts.{line-from, fixed-part, form-is}
 use Rattle.forms.proofs.Printing.{printed_form, form-printed}
@@ -90,9 +91,22 @@ module _ (s : List ℕ) (whole tail : ℕ) (comma : get_or s whole 0 ≡ 44) (h 
       fit-amount (take whole s) (take tail r) (record { some = omega arith; short = omega arith; wholes = wholes; rests = rests })
       in told amount s (whole + 1 + tail) (λ c. refl) (omega arith) (rw (amount-parts, ← e, is))
 
--- dates, moments, narratives and securities are judged as they stand
-pub stands-told : (f : Form) (s : List ℕ) (n : ℕ) → printed_form f ≡ true → n ≤ length s → form_number f (take n s) ≡ 0 → FormMeasured f s (Is n)
-stands-told f s n p = told f s n (λ c. p)
+-- dates, moments and narratives are judged as they stand
+pub date-told : (s : List ℕ) (n : ℕ) → n ≤ length s → form_number date (take n s) ≡ 0 → FormMeasured date s (Is n)
+unfolding printed_form
+date-told s n = told date s n (λ c. refl)
+
+pub moment-told : (s : List ℕ) (n : ℕ) → n ≤ length s → form_number moment (take n s) ≡ 0 → FormMeasured moment s (Is n)
+unfolding printed_form
+moment-told s n = told moment s n (λ c. refl)
+
+pub narrative-told : (s : List ℕ) (n : ℕ) → n ≤ length s → is_narrative (take n s) ≡ true → FormMeasured narrative s (Is n)
+unfolding form_number unless printed_form
+narrative-told s n h e = told narrative s n (λ c. refl) h (rw e)
+
+pub pool-told : (s : List ℕ) (n : ℕ) → n ≤ length s → form_number pool_narrative (take n s) ≡ 0 → FormMeasured pool_narrative s (Is n)
+unfolding printed_form
+pool-told s n = told pool_narrative s n (λ c. refl)
 
 -- ---- a value
 

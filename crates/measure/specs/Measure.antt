@@ -3,7 +3,7 @@
 use Rattle.std.specs.Prelude.{ℕ, ◌%◌, ◌≤◌, ◌≡◌, Bool, true, ◌&&◌, List, length, take, drop, get_or}
 use Rattle.text.specs.Bytes.{begins}
 use Rattle.text.specs.Classes.{printed, printed_class, all_printed}
-use Rattle.forms.specs.Forms.{Form, Slot, nothing, codes, characters, words, amount, date, moment, narrative, pool_narrative, security, other, form_number, value_number}
+use Rattle.forms.specs.Forms.{Form, Slot, nothing, codes, characters, words, amount, date, moment, narrative, pool_narrative, other, form_number, value_number}
 use Rattle.forms.specs.Slots.{form_of}
 use Rattle.measure.specs.declared.Width.{Width}
 use Rattle.measure.specs.declared.Width.TheVariants.{Is, Not}
@@ -19,7 +19,6 @@ clean_form date = true
 clean_form moment = true
 clean_form narrative = true
 clean_form pool_narrative = true
-clean_form security = true
 clean_form other = true
 
 unfoldable pub clean_slot : Slot → Bool

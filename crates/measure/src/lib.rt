@@ -3,7 +3,7 @@
 // What is right stands in specs/Measure.
 ghost use Rattle.std.specs.Prelude.{◌≡◌, true, ◌+◌, ◌≤◌, length, take, get_or};
 ghost use Rattle.text.specs.Classes.{all_in};
-ghost use Rattle.forms.specs.Forms.{characters, words, amount, date, moment, narrative, pool_narrative, security};
+ghost use Rattle.forms.specs.Forms.{characters, words, amount, date, moment, narrative, pool_narrative};
 ghost use Rattle.forms.specs.Slots.{words_in, form_of, slot_at};
 ghost use Rattle.measure.specs.Measure.{FixedMeasured, FormMeasured, Measured};
 
@@ -158,19 +158,6 @@ fn pool_width(text: &[u8]) -> Width
     }
 }
 
-fn security_width(text: &[u8]) -> Width
-    ensures { FormMeasured security text.now result }
-{
-    if text.len() < 9 {
-        return Width::Not;
-    }
-    if security::number(&text[..9]) == 0 {
-        Width::Is(9)
-    } else {
-        Width::Not
-    }
-}
-
 // What follows the fixed text of a slot, by the slot's line.
 fn form_width(slots: &[u8], line: &[u8], text: &[u8]) -> Width
     requires { length line.now ≡ 20 }
@@ -190,7 +177,6 @@ fn form_width(slots: &[u8], line: &[u8], text: &[u8]) -> Width
         7 => pool_width(text),
         8 => characters_width(Class::Hyphened, least, most, text),
         9 => characters_width(Class::Printed, least, most, text),
-        10 => security_width(text),
         _ => Width::Not,
     }
 }

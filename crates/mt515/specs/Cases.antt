@@ -1,5 +1,4 @@
--- Document 01, "B and its neighbours": B, the neighbours that are marked to be proved, and those beside them, in one table; and what
--- request A4 says of B with another security.
+-- Document 01, "B and its neighbours": B, the neighbours that are marked to be proved, and those beside them, in one table.
 use Rattle.std.specs.Prelude.{ℕ, ◌≡◌, List, [], ◌∷◌, map, take, drop, replicate}
 use Prim.Native.String.{String}
 use Rattle.text.specs.Bytes.{bytes}
@@ -69,30 +68,6 @@ cases =
     ∷ ("X" ∷ "-" ∷ [], 4, 2)
     ∷ []
 
--- B with another security
-unfoldable pub secured : String → List String
-secured line = with 27 line b
-
--- where 23 comes: behind 10 on its line, at the first faulty line of the value pass, behind 9, before the rules of line 0
-unfoldable pub securities : List (List String × ℕ × ℕ)
-securities =
-    (secured ":35B:/US/01F070641", 0, 0)
-    ∷ (secured ":35B:/US/ZZZZZZZZ0", 0, 0)
-    ∷ (secured ":35B:/US/01F070634", 23, 27)
-    ∷ (secured ":35B:/US/01F07063C", 23, 27)
-    ∷ (secured ":35B:/US/01F07063D", 23, 27)
-    ∷ (secured ":35B:/US/01F07063", 10, 27)
-    ∷ (secured ":35B:/US/01F0706333", 10, 27)
-    ∷ (secured ":35B:/US/01f070634", 10, 27)
-    ∷ (secured ":35B::US/01F070634", 10, 27)
-    ∷ (with 28 ":70E::TPRO//GSCC/TDSVOPTN" (secured ":35B:/US/01F070634"), 23, 27)
-    ∷ (with 26 ":36B::CONF//FAMT/17" (secured ":35B:/US/01F070634"), 11, 26)
-    ∷ (with 14 ":98C::TRAD//20230229093000" (secured ":35B:/US/01F070634"), 12, 14)
-    ∷ (with 7 ":23G:CANC" (secured ":35B:/US/01F070634"), 23, 27)
-    ∷ (with 26 ":36B::CONF//FAMT/0," (secured ":35B:/US/01F070634"), 23, 27)
-    ∷ (without 28 (secured ":35B:/US/01F070634"), 9, 28)
-    ∷ []
-
 -- no two records are the same
 unfoldable pub Unlike : Trade → List Trade → Type 0
 Unlike t [] = Unit
@@ -108,10 +83,10 @@ trades rows = map (λ row. (read_of (ended "\n" row.0)).trade) rows
 
 -- each message gets the number and line beside it; B's record, with LF and with CR LF, is that of values' table; MAST 0017, 17 and
 -- 15 stay as they are written, and the three records are different; a par of `0017,` is 17
-pub record Answered : Type 0 where
-  pub verdicts : map (λ row. verdict_of (ended "\n" row.0)) cases ≡ map (λ row. refused row.1 row.2) cases
-  pub secures : map (λ row. verdict_of (ended "\n" row.0)) securities ≡ map (λ row. refused row.1 row.2) securities
-  pub records : map (λ ending. read_of (ended ending b)) ("\n" ∷ "\r\n" ∷ []) ≡ replicate 2 (record { number = 0; line = 0; trade = trade_of_b })
-  pub masts : map (λ t. t.mast) (trades (take 3 cases)) ≡ map (λ s. text_of (bytes s)) ("0017" ∷ "17" ∷ "15" ∷ [])
-  pub unlike : AllUnlike (trades (take 3 cases))
-  pub pars : map (λ t. t.par) (trades (take 1 (drop 3 cases))) ≡ record { 0 = record { number = 17; decimals = 0 } } ∷ []
+abbrev pub Answered : Type 0
+Answered =
+    (map (λ row. verdict_of (ended "\n" row.0)) cases ≡ map (λ row. refused row.1 row.2) cases)
+    × (map (λ ending. read_of (ended ending b)) ("\n" ∷ "\r\n" ∷ []) ≡ replicate 2 (record { number = 0; line = 0; trade = trade_of_b }))
+    × (map (λ t. t.mast) (trades (take 3 cases)) ≡ map (λ s. text_of (bytes s)) ("0017" ∷ "17" ∷ "15" ∷ []))
+    × AllUnlike (trades (take 3 cases))
+    × (map (λ t. t.par) (trades (take 1 (drop 3 cases))) ≡ record { 0 = record { number = 17; decimals = 0 } } ∷ [])

@@ -1,5 +1,5 @@
--- Document 01, "Order in reading", of the MT515: 1; 2; 3; 4; then 5, 6, 7 in one pass; then 8, 9 in one pass; then 10, 11, 12
--- and request A4's 23 in one pass; then 13 to 17 in that order. Beside a refusal stands the blank record. It is what format's specs/Reading says of any message
+-- Document 01, "Order in reading", of the MT515: 1; 2; 3; 4; then 5, 6, 7 in one pass; then 8, 9 in one pass; then 10, 11, 12 in one
+-- pass; then 13 to 17 in that order. Beside a refusal stands the blank record. It is what format's specs/Reading says of any message
 -- type.
 use Rattle.std.specs.Prelude.{ℕ, List, length}
 use Rattle.lines.specs.declared.Verdict.{Verdict}

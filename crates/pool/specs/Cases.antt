@@ -136,13 +136,6 @@ cases =
     ∷ (unlinked (refusing ":70E::TPRO//DTCY/TDSVPOOL/CDRY/DDTE20240313/DKRSE004"), 15, 0)
     ∷ (with 7 ":23G:CANC" (behind 11 (link ":20C::PREV//NONREF") (kind ":22F::PROC/DTCY/CANC" bare)), 0, 0)
     -- par and settlement
-    -- request A4: the check digit of the security
-    ∷ (with 28 ":35B:/US/01F070641" p, 0, 0)
-    ∷ (with 28 ":35B:/US/01F070634" p, 23, 28)
-    ∷ (with 28 ":35B:/US/01F07063C" p, 23, 28)
-    ∷ (with 28 ":35B:/US/01F07063" p, 10, 28)
-    ∷ (with 27 ":36B::CONF//FAMT/0," (with 28 ":35B:/US/01F070634" p), 23, 28)
-    ∷ (with 27 ":36B::CONF//FAMT/17" (with 28 ":35B:/US/01F070634" p), 11, 27)
     ∷ (with 27 ":36B::CONF//FAMT/0," p, 16, 0)
     ∷ (with 15 ":98A::SETT//20240228" p, 17, 0)
     ∷ []

@@ -11,7 +11,6 @@ use Rattle.text.proofs.Laws.{begins-append}
 use Rattle.digits.specs.Numerals as Numerals
 use Rattle.amount.specs.Amounts.{amount_read, is_amount, whole}
 use Rattle.calendar.specs.Dates.{date_read, date_from, moment_read, moment_from}
-use Rattle.security.specs.Security.{security_number}
 use Rattle.forms.specs.Forms.{value_number, form_number, unless, is_word, word_at}
 use Rattle.forms.specs.Pool.{is_pool_shape, pool_number}
 use Rattle.forms.proofs.PoolNarratives.{pool-is}
@@ -32,5 +31,5 @@ unfolding slot_of slots form_number
 told-begins v h = ap (begins (bytes "/TDSVPOOL")) (pool-is v h) ∙ begins-append (bytes "/TDSVPOOL") _
 
 pub fields : Fields pool
-unfolding all_below Tests.is_field slot_of slots bytes begins before value_number security_number form_number unless is_code is_word word_at same amount_read is_amount whole date_read date_from moment_read moment_from Numerals.wide_number is_pool_shape pool_number slots_of member_slots own_slots field_slots tree general security details has
+unfolding all_below Tests.is_field slot_of slots bytes begins before value_number form_number unless is_code is_word word_at same amount_read is_amount whole date_read date_from moment_read moment_from Numerals.wide_number is_pool_shape pool_number slots_of member_slots own_slots field_slots tree general security details has
 fields = Tests.fields pool refl (behind-front pool narrative_slot 1 (bytes "/TDSVPOOL") (λ slot. refl) refl told-begins)

@@ -1,4 +1,4 @@
--- The mathematics of the crate's functions: the code's tests of texts are those of their slots, and tests by stretches of their list.
+-- The mathematics of the crate's functions: the widths of the code's texts are those of their slots, and tests by stretches of their list.
 -- Assumes nothing.
 use mathlib.Core.Path.{◌≡◌, refl, sym, ◌∙◌}
 use mathlib.Core.Bool.{Bool, ◌&&◌}
@@ -6,7 +6,6 @@ use mathlib.Core.List.{List, [], ◌∷◌}
 use lib.ListN.{take, drop}
 use Rattle.text.specs.Texts.{in_form as text_form}
 use Rattle.text.specs.declared.Text.{Text}
-use Rattle.security.specs.Security.{security_form}
 use Rattle.sheets.specs.Slots.{field_slots, own_slots, member_slots, slots_of, first_slots, must_slots}
 use Rattle.sheets.specs.Sheets.{has}
 use Rattle.pool_table.specs.Table.{slots, slot_of}
@@ -15,9 +14,9 @@ use Rattle.pool_trade.specs.declared.Party.{Party}
 use Rattle.pool_trade.specs.declared.PoolTrade.{PoolTrade}
 use Rattle.format.specs.Writable.{hold}
 use Rattle.pool_values.specs.Writable.{fitted, tests, in_form}
-use Rattle.format.proofs.BySlot.{fitted-must, fitted-may, fitted-security, hold-split, hold-from}
+use Rattle.format.proofs.BySlot.{fitted-must, fitted-may, hold-split, hold-from}
 
--- ---- the code's tests of texts are those of their slots
+-- ---- the widths of the code's texts are those of their slots
 
 pub record Widths : Type 0 where
   pub seme : (x : Text) → fitted 1 x ≡ text_form 1 16 x
@@ -28,7 +27,7 @@ pub record Widths : Type 0 where
   pub buyer-contra : (x : Text) → fitted 13 x ≡ text_form 0 16 x
   pub seller : (x : Text) → fitted 14 x ≡ text_form 4 4 x
   pub seller-contra : (x : Text) → fitted 15 x ≡ text_form 0 16 x
-  pub cusip : (x : Text) → fitted 17 x ≡ security_form x
+  pub cusip : (x : Text) → fitted 17 x ≡ text_form 9 9 x
   pub pool : (x : Text) → fitted 18 x ≡ text_form 0 9 x
   pub password : (x : Text) → fitted 20 x ≡ text_form 0 12 x
   pub sender : (x : Text) → fitted 21 x ≡ text_form 1 8 x
@@ -45,7 +44,7 @@ widths =
       buyer-contra = λ x. fitted-may tree slot_of 13 16 x refl refl;
       seller = λ x. fitted-must tree slot_of 14 4 4 x refl refl;
       seller-contra = λ x. fitted-may tree slot_of 15 16 x refl refl;
-      cusip = λ x. fitted-security tree slot_of 17 x refl refl;
+      cusip = λ x. fitted-must tree slot_of 17 9 9 x refl refl;
       pool = λ x. fitted-may tree slot_of 18 9 x refl refl;
       password = λ x. fitted-must tree slot_of 20 0 12 x refl refl;
       sender = λ x. fitted-must tree slot_of 21 1 8 x refl refl;

@@ -3,7 +3,6 @@ use Rattle.std.specs.Prelude.{ℕ, ◌≡◌, Bool, true, false, List, [], ◌�
 use Prim.Native.String.{String}
 use Rattle.text.specs.Bytes.{bytes}
 use Rattle.text.specs.Texts.{text_of}
-use Rattle.text.specs.declared.Text.{Text}
 use Rattle.typed.specs.declared.Payment.{Payment}
 use Rattle.pool_trade.specs.Records.{blank_trade}
 use Rattle.pool_trade.specs.declared.Kind.{Kind}
@@ -18,9 +17,9 @@ usd number decimals = Payment.Of (record { 0 = record { number = number; decimal
 abbrev on : ℕ → Delivery
 on date = Delivery.On (record { 0 = date })
 
--- P's record with another kind, MAST, PREV, money, par, CUSIP, CDRY, DDTE and DKRS
-unfoldable pub trade_on : Kind → String → String → Payment → ℕ → Text → Bool → Delivery → String → PoolTrade
-trade_on kind mast prev money par cusip cdr delivery reason =
+-- P's record with another kind, MAST, PREV, money, par, CDRY, DDTE and DKRS
+unfoldable pub trade : Kind → String → String → Payment → ℕ → Bool → Delivery → String → PoolTrade
+trade kind mast prev money par cdr delivery reason =
     record {
       kind = kind;
       password = p.password;
@@ -37,20 +36,12 @@ trade_on kind mast prev money par cusip cdr delivery reason =
       buyer = p.buyer;
       seller = p.seller;
       par = record { 0 = record { number = par; decimals = 0 } };
-      cusip = cusip;
+      cusip = p.cusip;
       pool = p.pool;
       cdr = cdr;
       delivery = delivery;
       reason = text_of (bytes reason);
     }
-
--- with P's CUSIP
-unfoldable pub trade : Kind → String → String → Payment → ℕ → Bool → Delivery → String → PoolTrade
-trade kind mast prev money par cdr delivery reason = trade_on kind mast prev money par p.cusip cdr delivery reason
-
--- an INST with another MAST and CUSIP
-unfoldable pub secured : String → String → PoolTrade
-secured mast cusip = trade_on Kind.Inst mast "" (usd 0 0) 1 (text_of (bytes cusip)) true (on 20240313) ""
 
 unfoldable pub cases : List (PoolTrade × ℕ)
 cases =
@@ -67,11 +58,6 @@ cases =
     ∷ (trade Kind.Inst "0017" "" (usd 0 0) 1 true (on 20230229) "", 18)
     ∷ (trade Kind.Inst "0017" "" (usd 0 0) 1 true (on 0) "", 18)
     ∷ (trade Kind.Inst "0017" "" (usd 0 0) 1 true (on 10101) "", 0)
-    -- CUSIP: nine c and a check digit
-    ∷ (secured "0017" "01F070641", 0)
-    ∷ (secured "0017" "01F070634", 18)
-    ∷ (secured "0017" "01F07063C", 18)
-    ∷ (secured "" "01F070634", 18)
     -- the kinds
     ∷ (trade Kind.Cdrq "0017" "" (usd 0 0) 1 true (on 20240313) "", 0)
     ∷ (trade Kind.Cdrq "0017" "R" (usd 0 0) 1 true (on 20240313) "", 15)

@@ -52,7 +52,7 @@ fn security_form(trade: PoolTrade) -> bool
 {
     let on = trade.delivery;
     let par = trade.par.0.in_form();
-    let cusip = security::in_form(trade.cusip);
+    let cusip = trade.cusip.in_form(9, 9);
     let pool = trade.pool.in_form(0, 9);
     let delivery = delivery_form(on);
     let reason = reason::in_form(trade.reason);

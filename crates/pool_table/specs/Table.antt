@@ -2,7 +2,7 @@
 -- fields; the lines of the header, and lines behind it that are fixed, have the numbers 20 to 25. Which line stands where is specs/Tree.
 use Rattle.std.specs.Prelude.{ℕ, List, [], ◌∷◌, ◌++◌, map, get_or}
 use Rattle.text.specs.Bytes.{bytes}
-use Rattle.forms.specs.Forms.{Slot, nothing, codes, words, amount, date, moment, pool_narrative, security, other}
+use Rattle.forms.specs.Forms.{Slot, nothing, codes, words, amount, date, moment, pool_narrative, other}
 use Rattle.forms.specs.Notation.{slot}
 use Rattle.typed.specs.Sides.{sides}
 use Rattle.pool_trade.specs.Records.{kinds, narrative_slot, password_slot, sender_slot}
@@ -50,7 +50,7 @@ slots =
     ∷ slot "/DTCY/PART" (codes 4 4)  -- 14
     ∷ reference  -- 15
     ∷ slot "//FAMT/" amount  -- 16
-    ∷ slot "/US/" security  -- 17
+    ∷ slot "/US/" (codes 9 9)  -- 17
     ∷ slot "/DTCY/" (codes 1 9)  -- 18
     ∷ slot "//DTCY" pool_narrative  -- 19, narrative_slot
     ∷ slot "" (codes 0 12)  -- 20, password_slot

@@ -68,7 +68,7 @@ pub const SLOTS: [u8; 720] = *b"\x00\x00\x00\x00                \
     \x01\x04\x04\x0a/DTCY/PART      \
     \x01\x01\x10\x02//              \
     \x03\x00\x00\x07//FAMT/         \
-    \x0a\x00\x00\x04/US/            \
+    \x01\x09\x09\x04/US/            \
     \x01\x01\x09\x06/DTCY/          \
     \x07\x00\x00\x06//DTCY          \
     \x01\x00\x0c\x00                \
@@ -91,7 +91,7 @@ pub const SLOTS: [u8; 720] = *b"\x00\x00\x00\x00                \
 // The slots of the header's lines.
 pub const HEADER: [u8; 4] = [20, 21, 24, 25];
 
-// Takes a pool message up to its values: the verdict of 1 to 12 and 23, and where the value of each slot begins and ends.
+// Takes a pool message up to its values: the verdict of 1 to 12, and where the value of each slot begins and ends.
 pub fn take(message: &[u8]) -> Body
     ensures { result ≡ take_of (table_of tree) slot_of header message.now }
 {

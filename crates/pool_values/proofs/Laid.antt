@@ -10,7 +10,6 @@ use Rattle.text.proofs.Printed.{printed, all_printed}
 use Rattle.digits.specs.Numerals as Numerals
 use Rattle.amount.specs.Amounts.{amount_read, is_amount, whole}
 use Rattle.calendar.specs.Dates.{date_read, date_from, moment_read, moment_from}
-use Rattle.security.specs.Security.{security_number}
 use Rattle.forms.specs.Forms.{is_word, word_at, unless, form_number, value_number}
 use Rattle.reason.specs.Reason.{has_reason, reason_in, good_reason}
 use Rattle.forms.specs.Pool.{has_cdr, behind_cdr, has_delivery, delivery_in, behind_delivery, is_pool_shape, pool_number}
@@ -33,7 +32,7 @@ use Rattle.pool_table.proofs.Trees.{good, is-apart, ends_at, is-once, is-sole, i
 use Rattle.pool_values.specs.Pool.{links, parties, fronts, pool}
 
 pub layout : Layout pool
-unfolding bytes begins same before is_between is_digit is_upper is_c in_class all_in printed Numerals.wide_number amount_read is_amount whole date_read date_from moment_read moment_from is_code is_word word_at unless security_number form_number value_number has_reason reason_in good_reason has_cdr behind_cdr has_delivery delivery_in behind_delivery is_pool_shape pool_number all_printed printed_form is_tagged name_of field_slots own_slots member_slots slots_of first_slots must_slots has groups_of keys_of clash disjoint distinct with_fields with_members with_tree last_line every_slot optional every is_codes no_code foreign is_amount_form apart_text once_front untouched tidy_row tidy_fields tidy_members tidy_tree field_key opens_at closer field_keys member_keys nestable field_texts member_texts texts words_agree printable edges strangers slots header slot_of general security details tree links parties fronts
+unfolding bytes begins same before is_between is_digit is_upper is_c in_class all_in printed Numerals.wide_number amount_read is_amount whole date_read date_from moment_read moment_from is_code is_word word_at unless form_number value_number has_reason reason_in good_reason has_cdr behind_cdr has_delivery delivery_in behind_delivery is_pool_shape pool_number all_printed printed_form is_tagged name_of field_slots own_slots member_slots slots_of first_slots must_slots has groups_of keys_of clash disjoint distinct with_fields with_members with_tree last_line every_slot optional every is_codes no_code foreign is_amount_form apart_text once_front untouched tidy_row tidy_fields tidy_members tidy_tree field_key opens_at closer field_keys member_keys nestable field_texts member_texts texts words_agree printable edges strangers slots header slot_of general security details tree links parties fronts
 layout =
     record {
       good = good;

@@ -31,7 +31,7 @@ use Rattle.format.specs.Reading.{rules_of}
 use Rattle.format.proofs.BySlot.{Each, ◌⨾◌, hold_at, word_back}
 use Rattle.format.proofs.Tests.{every, tidied}
 use Rattle.format.proofs.Laws.{every_slot, Filled, Held, Rests}
-use Rattle.format.proofs.Values.{good-unless, fixed-line, amount-text, filled, may-filled, text-filled, text-back, Named, none, each-slot, held_of, may-form, must-form, text-kept, security-kept, Kept, kept, no_slot, kept-all, at_slots, rests-of}
+use Rattle.format.proofs.Values.{good-unless, fixed-line, amount-text, filled, may-filled, text-filled, text-back, Named, none, each-slot, held_of, may-form, must-form, text-kept, Kept, kept, no_slot, kept-all, at_slots, rests-of}
 use Rattle.typed.specs.Payments.{payment_in, payment_text, payment_form}
 use Rattle.typed.specs.Sides.{side_word}
 use Rattle.typed.proofs.Laws.{date-held, moment-held}
@@ -221,7 +221,7 @@ module _ (value : ℕ → List ℕ) (h : Held pool value) (rules : (rules_of poo
       ⨾ is 14 (text 14 4 4 refl refl refl)
       ⨾ is 15 (text 15 1 16 refl refl refl)
       ⨾ is 16 (amount-text (value 16) (must 16 refl refl))
-      ⨾ is 17 (security-kept pool value h 17 refl refl refl)
+      ⨾ is 17 (text 17 9 9 refl refl refl)
       ⨾ is 18 (text 18 1 9 refl refl refl)
       ⨾ is 19 (and_both (told-form (value 19) told-kept).0 (told-form (value 19) told-kept).1, told_back (value 19) told-kept)
       ⨾ is 20 (text 20 0 12 refl refl refl)

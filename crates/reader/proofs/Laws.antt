@@ -76,13 +76,13 @@ module _ (slot_of : ℕ → Slot) (m : List ℕ) (s : ℕ) where
 
 -- ---- a message that was taken
 
--- the verdict of 1 to 12 and 23, with the rows of a table
+-- the verdict of 1 to 12, with the rows of a table
 unfoldable pub pass_of : List Row → (ℕ → Slot) → List ℕ → List ℕ → Verdict
 pass_of table slot_of header m =
     then (lines_pass m) (then (head_pass slot_of header m) (then (nest_pass m) (body_pass slot_of (layout_of table 5 (drop 4 (lines_of m))))))
 
 module _ (table : List Row) (slot_of : ℕ → Slot) (header m : List ℕ) where
-  -- 1 to 7, and 8 to 12 and 23
+  -- 1 to 7, and 8 to 12
   abbrev first : Verdict
   first = then (lines_pass m) (then (head_pass slot_of header m) (nest_pass m))
 

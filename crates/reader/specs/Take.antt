@@ -1,5 +1,5 @@
 -- Document 01, "Order in reading", up to the values, of any message type: 1; 2; 3; 4; then 5, 6, 7 in one pass; then 8, 9 in one
--- pass; then 10, 11, 12 and request A4's 23 in one pass. Beside a verdict stand the places of the values.
+-- pass; then 10, 11, 12 in one pass. Beside a verdict stand the places of the values.
 use Rattle.std.specs.Prelude.{ℕ, cond, List, eqb, replicate}
 use Rattle.lines.specs.Verdicts.{then}
 use Rattle.lines.specs.Lines.{lines_pass}

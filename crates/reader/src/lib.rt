@@ -73,7 +73,7 @@ fn read_header(message: &[u8], header: &[u8], slots: &[u8]) -> Body
     }
 }
 
-// Takes a message: the verdict of 1 to 12 and 23, and where the value of each slot begins and ends.
+// Takes a message: the verdict of 1 to 12, and where the value of each slot begins and ends.
 pub fn take(message: &[u8], header: &[u8], rows: &[u8], slots: &[u8]) -> Body
     ensures { result ≡ take_of (rows_of rows.now) (slot_at slots.now) header.now message.now }
 {

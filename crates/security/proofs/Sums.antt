@@ -24,15 +24,15 @@ use Rattle.security.specs.Security.{worth, adds, sum_from, is_checked, security_
 
 -- ---- the value of a c
 
--- where the byte of a c lies: it is a digit or a letter
-pub record Lies (b : ℕ) : Type 0 where
+-- a byte of a c: it is a digit or a letter
+pub record Kind (b : ℕ) : Type 0 where
   pub low : 48 ≤ b
   pub high : b ≤ 90
   pub between : 57 < b → 65 ≤ b
 
-pub c-lies : (b : ℕ) → is_c b ≡ true → Lies b
+pub c-kind : (b : ℕ) → is_c b ≡ true → Kind b
 unfolding is_c is_upper is_digit is_between
-c-lies b e =
+c-kind b e =
     or_case (leb 65 b && leb b 90) (leb 48 b && leb b 57) e
     (λ u. let l = leb-true 65 b (and_left _ _ u) in let h = leb-true b 90 (and_right (leb 65 b) _ u) in
     record { low = omega arith; high = h; between = λ f. l })
@@ -42,11 +42,11 @@ c-lies b e =
 module _ (b : ℕ) (is : is_c b ≡ true) where
   pub digit-worth : b ≤ 57 → (b - 48 ≡ worth b) × (b - 48 ≤ 35)
   unfolding worth is_digit is_between
-  digit-worth h = let k = (c-lies b is).low in (rw (le-leb 48 b k, le-leb b 57 h), omega arith)
+  digit-worth h = let k = (c-kind b is).low in (rw (le-leb 48 b k, le-leb b 57 h), omega arith)
 
   pub letter-worth : 57 < b → (b - 55 ≡ worth b) × (b - 55 ≤ 35)
   unfolding worth is_digit is_between
-  letter-worth h = let k = c-lies b is in let u = k.high in (rw (le-leb 48 b k.low, lt-leb b 57 h), omega arith)
+  letter-worth h = let k = c-kind b is in let u = k.high in (rw (le-leb 48 b k.low, lt-leb b 57 h), omega arith)
 
 -- ---- the characters of a security, one by one
 

@@ -3,7 +3,7 @@
 -- where is specs/Tree.
 use Rattle.std.specs.Prelude.{ℕ, List, [], ◌∷◌, ◌++◌, map, get_or}
 use Rattle.text.specs.Bytes.{bytes}
-use Rattle.forms.specs.Forms.{Slot, nothing, codes, words, amount, date, moment, narrative, security, other}
+use Rattle.forms.specs.Forms.{Slot, nothing, codes, words, amount, date, moment, narrative, other}
 use Rattle.forms.specs.Notation.{slot}
 use Rattle.typed.specs.Sides.{sides}
 use Rattle.trade.specs.Records.{kinds, narrative_slot, password_slot, sender_slot}
@@ -56,7 +56,7 @@ slots =
     ∷ reference  -- 16
     ∷ slot "//GSCC/TDID" (codes 1 20)  -- 17
     ∷ slot "//FAMT/" amount  -- 18
-    ∷ slot "/US/" security  -- 19
+    ∷ slot "/US/" (codes 9 9)  -- 19
     ∷ slot "/GSCC/" (codes 1 9)  -- 20
     ∷ slot "//GSCC" narrative  -- 21, narrative_slot
     ∷ none ∷ none ∷ none  -- 22 to 24

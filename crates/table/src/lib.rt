@@ -72,7 +72,7 @@ pub const SLOTS: [u8; 840] = *b"\x00\x00\x00\x00                \
     \x01\x01\x10\x02//              \
     \x01\x01\x14\x0b//GSCC/TDID     \
     \x03\x00\x00\x07//FAMT/         \
-    \x0a\x00\x00\x04/US/            \
+    \x01\x09\x09\x04/US/            \
     \x01\x01\x09\x06/GSCC/          \
     \x06\x00\x00\x06//GSCC          \
     \x00\x00\x00\x00                \
@@ -99,7 +99,7 @@ pub const SLOTS: [u8; 840] = *b"\x00\x00\x00\x00                \
 // The slots of the header's lines.
 pub const HEADER: [u8; 4] = [28, 29, 32, 33];
 
-// Takes an MT515 up to its values: the verdict of 1 to 12 and 23, and where the value of each slot begins and ends.
+// Takes an MT515 up to its values: the verdict of 1 to 12, and where the value of each slot begins and ends.
 pub fn take(message: &[u8]) -> Body
     ensures { result ≡ take_of (table_of tree) slot_of header message.now }
 {

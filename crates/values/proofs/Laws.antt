@@ -26,7 +26,7 @@ use Rattle.format.specs.Reading.{rules_of}
 use Rattle.format.proofs.BySlot.{Each, ◌⨾◌, hold_at, word_back}
 use Rattle.format.proofs.Tests.{every, tidied}
 use Rattle.format.proofs.Laws.{every_slot, Filled, Held, Rests}
-use Rattle.format.proofs.Values.{good-unless, fixed-line, amount-text, filled, may-filled, text-filled, text-back, Named, none, each-slot, held_of, may-form, must-form, text-kept, security-kept, Kept, kept, no_slot, kept-all, at_slots, rests-of}
+use Rattle.format.proofs.Values.{good-unless, fixed-line, amount-text, filled, may-filled, text-filled, text-back, Named, none, each-slot, held_of, may-form, must-form, text-kept, Kept, kept, no_slot, kept-all, at_slots, rests-of}
 use Rattle.typed.proofs.Preps.{prep-back, prep-number, prep-held}
 use Rattle.typed.proofs.Laws.{date-held, moment-held}
 use Rattle.typed.specs.Sides.{side_word}
@@ -206,7 +206,7 @@ module _ (value : ℕ → List ℕ) (h : Held mt515 value) (rules : (rules_of mt
       ⨾ is 16 (text 16 1 16 refl refl refl)
       ⨾ is 17 (text 17 1 20 refl refl refl)
       ⨾ is 18 (amount-text (value 18) (must 18 refl refl))
-      ⨾ is 19 (security-kept mt515 value h 19 refl refl refl)
+      ⨾ is 19 (text 19 9 9 refl refl refl)
       ⨾ is 20 (text 20 1 9 refl refl refl)
       ⨾ is 21 (and_both (told-form (value 21) told-kept).0 (told-form (value 21) told-kept).1, told_back (value 21) told-kept)
       ⨾ no 22 refl refl

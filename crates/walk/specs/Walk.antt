@@ -1,5 +1,5 @@
 -- Document 01, the lines behind the header against the table of a message type, whichever it is: 8 and 9 in one pass, then 10,
--- 11, 12 and request A4's 23 in one pass over the lines that were taken. And the values of these lines: what each is, and where it stands.
+-- 11 and 12 in one pass over the lines that were taken. And the values of these lines: what each is, and where it stands.
 use Rattle.std.specs.Prelude.{ℕ, ◌+◌, ◌-◌, cond, List, [], ◌∷◌, eqb, length, drop, set}
 use Rattle.lines.specs.Verdicts.{refused, pass, then}
 use Rattle.lines.specs.Lines.{lines_of, end_of}
@@ -9,7 +9,7 @@ use Rattle.layout.specs.Rows.{Row}
 use Rattle.layout.specs.Layout.{Taken, Run, refused_at, taken, layout_of}
 use Rattle.walk.specs.declared.Body.{Body}
 
--- ---- 10, 11, 12 and 23: the values, each by its slot
+-- ---- 10, 11 and 12: the values, each by its slot
 
 unfoldable pub value_verdict : (ℕ → Slot) → Taken → Verdict
 value_verdict slot_of t =

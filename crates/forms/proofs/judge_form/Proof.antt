@@ -4,7 +4,7 @@ use Rattle.amount.specs.Amounts.{amount_number}
 use Rattle.calendar.specs.Dates.{date_number, moment_number}
 use Rattle.forms.specs.Forms.{unless, form_number}
 use Rattle.forms.specs.Slots.{form_of}
-use Rattle.forms.proofs.Parts.{words-number, past-ten, no-form}
+use Rattle.forms.proofs.Parts.{words-number, past-nine, no-form}
 use borrow.Author.Rules.{rules}
 use Rattle.forms.proofs.judge_form.Statement.{statement}
 use Rattle.forms.proofs.judge_form.Tie as tie
@@ -81,9 +81,6 @@ judge-characters-requires c κs = search rules
 judge-characters-requires-2 : tie.Need-judge-characters-requires-2
 judge-characters-requires-2 c κs = search rules
 
-number-requires-5 : tie.Need-number-requires-5
-number-requires-5 c κs = search rules
-
 returns : tie.Need-returns
 unfolding form_of form_number
 returns c = rw c.before.match.keys1 c.unless.ensures
@@ -130,15 +127,10 @@ returns-10 c = rw c.before.match.keys10 c.judge-characters2.ensures
 
 returns-11 : tie.Need-returns-11
 unfolding form_of form_number
-returns-11 c = rw c.before.match.keys11 c.number5.ensures
-
-returns-12 : tie.Need-returns-12
-unfolding form_of form_number
-returns-12 c =
+returns-11 c =
     let r = c.match.rest in
-    let s = r.0.0.0.0.0.0 in
-    no-form _ _ _ _ _
-    (past-ten _ s.0.0.0.0.1 s.0.0.0.1 s.0.0.1 s.0.1 s.1 r.0.0.0.0.0.1 r.0.0.0.0.1 r.0.0.0.1 r.0.0.1 r.0.1 r.1)
+    let s = r.0.0.0.0.0 in
+    no-form _ _ _ _ _ (past-nine _ s.0.0.0.0.1 s.0.0.0.1 s.0.0.1 s.0.1 s.1 r.0.0.0.0.1 r.0.0.0.1 r.0.0.1 r.0.1 r.1)
 
 pub judge-form-spec : {M : Type 1} → statement M
 judge-form-spec =
@@ -166,7 +158,6 @@ judge-form-spec =
     number-requires-4
     judge-characters-requires
     judge-characters-requires-2
-    number-requires-5
     returns
     returns-2
     returns-3
@@ -177,5 +168,4 @@ judge-form-spec =
     returns-8
     returns-9
     returns-10
-    returns-11
-    returns-12)
+    returns-11)

@@ -42,9 +42,6 @@ characters-width-requires-2 c κs = search rules
 characters-width-requires-3 : tie.Need-characters-width-requires-3
 characters-width-requires-3 c κs = search rules
 
-security-width-requires : tie.Need-security-width-requires
-security-width-requires c κs = search rules
-
 returns : tie.Need-returns
 unfolding form_of
 returns c = rw c.match.keys1 (nothing-told _)
@@ -86,12 +83,8 @@ unfolding form_of
 returns-10 c = rw c.before.match.keys10 c.characters-width3.ensures
 
 returns-11 : tie.Need-returns-11
-unfolding form_of
-returns-11 c = rw c.before.match.keys11 c.security-width.ensures
-
-returns-12 : tie.Need-returns-12
 unfolding FormMeasured
-returns-12 c = tt
+returns-11 c = tt
 
 pub form-width-spec : {M : Type 1} → statement M
 form-width-spec =
@@ -109,7 +102,6 @@ form-width-spec =
     pool-width-requires
     characters-width-requires-2
     characters-width-requires-3
-    security-width-requires
     returns
     returns-2
     returns-3
@@ -120,5 +112,4 @@ form-width-spec =
     returns-8
     returns-9
     returns-10
-    returns-11
-    returns-12)
+    returns-11)

@@ -1,12 +1,11 @@
 -- `measure::moment_width` meets its contract. Assumes nothing.
-use mathlib.Core.Path.{refl, sym, ap, ◌∙◌}
+use mathlib.Core.Path.{sym, ap, ◌∙◌}
 use native.Mathlib.Omega.{arith}
 use lib.ListN.{length-take}
 use Rattle.calendar.specs.Dates.{moment_number}
-use Rattle.forms.specs.Forms.{moment, form_number}
-use Rattle.forms.proofs.Printing.{printed_form}
+use Rattle.forms.specs.Forms.{form_number}
 use Rattle.measure.specs.Measure.{FormMeasured}
-use Rattle.measure.proofs.Laws.{stands-told}
+use Rattle.measure.proofs.Laws.{moment-told}
 use borrow.Author.Rules.{rules}
 use Rattle.measure.proofs.moment_width.Statement.{statement}
 use Rattle.measure.proofs.moment_width.Tie as tie
@@ -25,8 +24,8 @@ number-requires : tie.Need-number-requires
 number-requires c κs = search rules
 
 returns-2 : tie.Need-returns-2
-unfolding form_number printed_form
-returns-2 c = stands-told moment _ _ refl (omega arith) (sym (c.before.number.ensures ∙ ap moment_number c.before.before.read.ensures) ∙ c.if2.true)
+unfolding form_number
+returns-2 c = moment-told _ _ (omega arith) (sym (c.before.number.ensures ∙ ap moment_number c.before.before.read.ensures) ∙ c.if2.true)
 
 returns-3 : tie.Need-returns-3
 unfolding FormMeasured

@@ -1,11 +1,9 @@
 -- `measure::narrative_width` meets its contract. Assumes nothing.
-use mathlib.Core.Path.{refl, sym, ap, ◌∙◌}
+use mathlib.Core.Path.{sym, ◌∙◌}
 use native.Mathlib.Omega.{arith}
 use lib.ListN.{length-take}
-use Rattle.forms.specs.Forms.{narrative, unless, form_number}
-use Rattle.forms.proofs.Printing.{printed_form}
 use Rattle.measure.specs.Measure.{FormMeasured}
-use Rattle.measure.proofs.Laws.{stands-told}
+use Rattle.measure.proofs.Laws.{narrative-told}
 use borrow.Author.Rules.{rules}
 use Rattle.measure.proofs.narrative_width.Statement.{statement}
 use Rattle.measure.proofs.narrative_width.Tie as tie
@@ -33,8 +31,7 @@ is-narrative-requires : tie.Need-is-narrative-requires
 is-narrative-requires c κs = search rules
 
 returns-2 : tie.Need-returns-2
-unfolding form_number unless printed_form
-returns-2 c = stands-told narrative _ _ refl (omega arith) (ap unless (sym c.before.is-narrative.ensures ∙ c.if2.true))
+returns-2 c = narrative-told _ _ (omega arith) (sym c.before.is-narrative.ensures ∙ c.if2.true)
 
 returns-3 : tie.Need-returns-3
 unfolding FormMeasured

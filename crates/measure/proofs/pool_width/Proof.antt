@@ -1,11 +1,10 @@
 -- `measure::pool_width` meets its contract. Assumes nothing.
-use mathlib.Core.Path.{refl, sym, ◌∙◌}
+use mathlib.Core.Path.{sym, ◌∙◌}
 use native.Mathlib.Omega.{arith}
 use lib.ListN.{length-take}
-use Rattle.forms.specs.Forms.{pool_narrative, form_number}
-use Rattle.forms.proofs.Printing.{printed_form}
+use Rattle.forms.specs.Forms.{form_number}
 use Rattle.measure.specs.Measure.{FormMeasured}
-use Rattle.measure.proofs.Laws.{stands-told}
+use Rattle.measure.proofs.Laws.{pool-told}
 use borrow.Author.Rules.{rules}
 use Rattle.measure.proofs.pool_width.Statement.{statement}
 use Rattle.measure.proofs.pool_width.Tie as tie
@@ -39,8 +38,8 @@ number-requires : tie.Need-number-requires
 number-requires c κs = search rules
 
 returns-2 : tie.Need-returns-2
-unfolding form_number printed_form
-returns-2 c = stands-told pool_narrative _ _ refl (omega arith) (sym c.before.number.ensures ∙ c.if2.true)
+unfolding form_number
+returns-2 c = pool-told _ _ (omega arith) (sym c.before.number.ensures ∙ c.if2.true)
 
 returns-3 : tie.Need-returns-3
 unfolding FormMeasured

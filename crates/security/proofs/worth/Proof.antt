@@ -1,12 +1,12 @@
 -- `security::worth` meets its contract. Assumes nothing.
 use native.Mathlib.Omega.{arith}
-use Rattle.security.proofs.Sums.{c-lies, digit-worth, letter-worth}
+use Rattle.security.proofs.Sums.{c-kind, digit-worth, letter-worth}
 use borrow.Author.Rules.{rules}
 use Rattle.security.proofs.worth.Statement.{statement}
 use Rattle.security.proofs.worth.Tie as tie
 
 sub-result : tie.Need-overflow-sub-result
-sub-result c = (c-lies _ c.before.requires).low
+sub-result c = (c-kind _ c.before.requires).low
 
 sub-result-2 : tie.Need-overflow-sub-result-2
 sub-result-2 c = search rules
