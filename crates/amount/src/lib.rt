@@ -2,6 +2,8 @@
 // ever taken for another.
 //
 // What is right stands in specs/Amounts.
+#![tactic(auto)]
+
 ghost use Rattle.std.specs.Prelude.{◌≡◌, ◌-◌, ◌^◌, ◌≤◌, ◌<◌, length, take};
 ghost use Rattle.text.specs.Copy.{placed, after};
 ghost use Rattle.amount.specs.Amounts.{shortened, noughts, parts_read, amount_read, amount_number, in_form, spread, amount_text, nought, most, shortest_of};
@@ -9,13 +11,13 @@ ghost use Rattle.amount.specs.Amounts.{shortened, noughts, parts_read, amount_re
 use digits::Number;
 
 // The digits of an amount as one whole number, and how many of them are decimals.
-#[derive(Drop)]
+#[derive(Clone, Copy)]
 pub struct Amount {
     pub number: u64,
     pub decimals: usize,
 }
 
-#[derive(Drop)]
+#[derive(Clone, Copy)]
 pub enum AmountRead {
     Good(Amount),
     Wrong,
@@ -62,7 +64,7 @@ pub fn leading(part: &[u8]) -> usize
 }
 
 // From where to where the shortest text of an amount stands in its text.
-#[derive(Drop)]
+#[derive(Clone, Copy)]
 pub struct Trim {
     pub from: usize,
     pub to: usize,
@@ -201,7 +203,7 @@ fn spread_out(number: u64, decimals: usize) -> [u8; 15]
 }
 
 // The face value of a trade.
-#[derive(Drop)]
+#[derive(Clone, Copy)]
 pub struct Par(pub Amount);
 
 impl Par {
@@ -229,7 +231,7 @@ impl Par {
 }
 
 // The price of a trade.
-#[derive(Drop)]
+#[derive(Clone, Copy)]
 pub struct Price(pub Amount);
 
 impl Price {
@@ -257,7 +259,7 @@ impl Price {
 }
 
 // A sum of money.
-#[derive(Drop)]
+#[derive(Clone, Copy)]
 pub struct Money(pub Amount);
 
 impl Money {

@@ -1,6 +1,8 @@
 // An answer as it is held: the record of an MT509, and how it is had from the values of a message's slots.
 //
 // What is right stands in specs/Records.
+#![tactic(auto)]
+
 ghost use Rattle.std.specs.Prelude.{◌≡◌};
 ghost use Rattle.stretches.specs.Stretches.{stretch_of};
 ghost use Rattle.answer.specs.Records.{reason_of, reasons_of, reason_at, answer_of, blank_answer};
@@ -17,13 +19,13 @@ const PASSWORD: usize = 32;
 const RECEIVER: usize = 33;
 
 // A reason: its code, and its text, which need not be there. One without a code does not stand.
-#[derive(Drop)]
+#[derive(Clone, Copy)]
 pub struct Reason {
     pub code: Text,
     pub text: Remark,
 }
 
-#[derive(Drop)]
+#[derive(Clone, Copy)]
 pub struct Answer {
     pub copy: bool,
     pub status: Status,
@@ -42,7 +44,7 @@ pub struct Answer {
 }
 
 // The references of the LINK blocks, which are gathered by themselves.
-#[derive(Drop)]
+#[derive(Clone, Copy)]
 struct Links {
     mast: Text,
     prev: Text,

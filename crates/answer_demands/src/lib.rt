@@ -1,1 +1,2 @@
 // The second and the third demand of the MT509: theorems, and no code.
+#![tactic(auto)]

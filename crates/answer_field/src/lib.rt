@@ -1,6 +1,8 @@
 // One field of an MT509: where the value of a slot stands, and that part of the message.
 //
 // What is right stands in specs/Field, over format's specs/Field.
+#![tactic(auto)]
+
 ghost use Rattle.std.specs.Prelude.{◌≡◌};
 ghost use Rattle.format.specs.Field.{field_of};
 ghost use Rattle.answer_values.specs.Mt509.{mt509};
@@ -10,7 +12,7 @@ ghost use Rattle.answer_field.specs.Field.{place_of};
 const LAST: usize = 31;
 
 // What the caller gets back of a slot: the read's number, and where the value stands in the message.
-#[derive(Drop)]
+#[derive(Clone, Copy)]
 pub struct Stretch {
     pub number: u64,
     pub offset: usize,

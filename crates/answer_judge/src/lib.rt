@@ -1,6 +1,8 @@
 // Whether a record of an answer may be written: the numbers that it shows by itself.
 //
 // What is right stands in specs/Judging, and of a record in form in answer_values' specs/Writable.
+#![tactic(auto)]
+
 mod form;
 
 ghost use Rattle.std.specs.Prelude.{◌≡◌};

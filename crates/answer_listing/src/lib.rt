@@ -2,6 +2,8 @@
 //
 // What is right stands in specs/Rows. The fields in front of the reasons are held as seven texts, and a row is composed in a line that
 // has room for every one before it goes to the caller's buffer, so that half of a row is never seen.
+#![tactic(auto)]
+
 ghost use Rattle.std.specs.Prelude.{◌≡◌, ◌≤◌, length};
 ghost use mathlib.Core.List.{[], ◌∷◌, ◌++◌, flatten};
 ghost use Rattle.text.specs.Copy.{placed, after};
@@ -18,7 +20,7 @@ use status::Status;
 use text::Text;
 
 // The fields of a row in front of its reasons.
-#[derive(Drop)]
+#[derive(Clone, Copy)]
 struct Row {
     message: Text,
     number: Text,

@@ -1,6 +1,8 @@
 // The rules by status: what 23G says against the status, and whether a reason and a copy go with it. The numbers 13, 14 and 15.
 //
 // What is right stands in specs/Rules.
+#![tactic(auto)]
+
 ghost use Rattle.std.specs.Prelude.{◌≡◌};
 ghost use Rattle.lines.specs.Verdicts.{refused};
 ghost use Rattle.answer_rules.specs.Rules.{goes_with, is_reject, has_reason, lacks_reason, has_forbidden, record_pass, answer_pass};

@@ -1,6 +1,8 @@
 // The values that a record has for the slots of an MT509.
 //
 // What is right stands in specs/Values and fill's specs/Places; specs/Writable says when a record is in form.
+#![tactic(auto)]
+
 mod reasons;
 mod slots;
 

@@ -2,6 +2,7 @@
 //
 // A batch may cut into as many messages as it has lines, and a row is longer than the shortest message: so each row is printed
 // as it comes, and the output is never held.
+#![tactic(auto)]
 
 // The heading stands also where there is no message.
 fn head() {

@@ -2,6 +2,8 @@
 //
 // A line that is one block more than may come is told by its text alone, so that there is code here for a line's words only. What is
 // right stands in specs/Bars.
+#![tactic(auto)]
+
 ghost use Rattle.std.specs.Prelude.{◌≡◌};
 ghost use Rattle.bars.specs.Bars.{goes_on, strays};
 

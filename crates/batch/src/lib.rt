@@ -1,6 +1,8 @@
 // A batch, message by message: from a position the piece that begins there is read, and the position behind it is answered.
 //
 // What is right stands in specs/Batch.
+#![tactic(auto)]
+
 ghost use Rattle.std.specs.Prelude.{◌≡◌};
 ghost use Rattle.batch.specs.Batch.{blank_reading, next_of};
 
@@ -8,7 +10,7 @@ use mt515::Reading;
 use pieces::Turn;
 
 // What the desk gets back of a position: what stands there, how it is read, and the position to go on from.
-#[derive(Drop)]
+#[derive(Clone, Copy)]
 pub struct Answer {
     pub turn: Turn,
     pub reading: Reading,

@@ -2,6 +2,8 @@
 //
 // What is right stands in specs/Blocks. A block holds fields and further blocks, which hold fields and blocks in turn: the walk
 // over a block and the walk over its items call each other, and specs/Mutual says what they promise each other.
+#![tactic(auto)]
+
 ghost use Rattle.std.specs.Prelude.{◌≡◌, ◌&&◌, ◌+◌, ◌≤◌, leb, length, drop};
 ghost use Rattle.text.specs.Bytes.{same};
 ghost use Rattle.lines.specs.Lines.{lines_of};
@@ -12,7 +14,7 @@ use lines::Verdict;
 use text::Class;
 
 // What a line does: it is the `-` line, it opens or closes a block, it is a field, or it has not the shape of a line.
-#[derive(Drop)]
+#[derive(Clone, Copy)]
 enum Role {
     End,
     Opens,
@@ -22,7 +24,7 @@ enum Role {
 }
 
 // A refusal's number and line, or 0 and the line and the place behind what was walked.
-#[derive(Drop)]
+#[derive(Clone, Copy)]
 struct Walk {
     fault: u64,
     line: usize,

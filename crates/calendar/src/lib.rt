@@ -1,6 +1,8 @@
 // Dates, times of day and both together: reading, judging, comparing them and putting them into a lent buffer.
 //
 // What is right stands in specs/Dates.
+#![tactic(auto)]
+
 ghost use Rattle.std.specs.Prelude.{◌≡◌, ◌+◌, ◌<◌, ◌≤◌, true, length, take, drop};
 ghost use Rattle.digits.specs.Numerals.{numeral, digits_alone};
 ghost use Rattle.text.specs.Copy.{placed, after};
@@ -10,26 +12,26 @@ use digits::Number;
 use text::Class;
 
 // A date as the number YYYYMMDD that its digits spell.
-#[derive(Drop)]
+#[derive(Clone, Copy)]
 pub struct Date(pub u64);
 
 // A time of day as the number HHMMSS that its digits spell.
-#[derive(Drop)]
+#[derive(Clone, Copy)]
 pub struct Time(pub u64);
 
-#[derive(Drop)]
+#[derive(Clone, Copy)]
 pub struct Moment {
     pub date: Date,
     pub time: Time,
 }
 
-#[derive(Drop)]
+#[derive(Clone, Copy)]
 pub enum DateRead {
     Good(Date),
     Wrong,
 }
 
-#[derive(Drop)]
+#[derive(Clone, Copy)]
 pub enum MomentRead {
     Good(Moment),
     Wrong,

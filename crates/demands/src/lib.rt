@@ -1,1 +1,2 @@
 // The three demands as theorems over the definitions: no code.
+#![tactic(auto)]

@@ -1,6 +1,8 @@
 // Digits and numbers: reading the digits of a part, and putting a number's digits into a lent buffer.
 //
 // What is right stands in specs/Numerals.
+#![tactic(auto)]
+
 ghost use Rattle.std.specs.Prelude.{◌≡◌, ◌-◌, true};
 ghost use Rattle.text.specs.Classes.{is_digit};
 ghost use Rattle.text.specs.Copy.{placed, after};
@@ -9,14 +11,14 @@ ghost use Rattle.digits.specs.Numerals.{digits, run_of, number_of, ten_to};
 use text::Class;
 
 // A part of a message as a number.
-#[derive(Drop)]
+#[derive(Clone, Copy)]
 pub enum Number {
     Is(u64),
     Not,
 }
 
 // The digits that a part begins with: the number that they spell, and how many they are.
-#[derive(Drop)]
+#[derive(Clone, Copy)]
 pub struct Run {
     pub number: u64,
     pub len: usize,

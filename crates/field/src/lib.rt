@@ -1,11 +1,13 @@
 // One field of a message: where the value of a slot stands, and that part of the message.
 //
 // What is right stands in specs/Field.
+#![tactic(auto)]
+
 ghost use Rattle.std.specs.Prelude.{◌≡◌};
 ghost use Rattle.field.specs.Field.{front_of, field_of, place_of};
 
 // What the caller gets back of a slot: the read's number, and where the value stands in the message.
-#[derive(Drop)]
+#[derive(Clone, Copy)]
 pub struct Stretch {
     pub number: u64,
     pub offset: usize,

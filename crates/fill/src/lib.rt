@@ -4,6 +4,8 @@
 // lends the bytes of its table and of its slots, and the numbers of the slots that are optional; nothing here knows a record. All
 // are parameters wherever a slot is looked up, since a struct of references is none of the forms that can be proved. What is right
 // stands in specs/Filling and specs/Runs; specs/Steps serves the steps in between.
+#![tactic(auto)]
+
 mod parts;
 mod standing;
 
@@ -15,7 +17,7 @@ ghost use Rattle.fill.specs.Steps.{is_held, is_edge, Next};
 
 // Where the walk is: the place in the buffer, the blocks since one that does not stand, and the row of the last many blocks; before the
 // first of them that is behind the last row, which has no text.
-#[derive(Drop)]
+#[derive(Clone, Copy)]
 struct Walk {
     at: usize,
     off: usize,

@@ -1,6 +1,8 @@
 // The row of a table that the line at the front of a text fits, without a look for the end of the line.
 //
 // Nothing here knows a tag. What is right stands in specs/Fitting.
+#![tactic(auto)]
+
 ghost use Rattle.std.specs.Prelude.{◌≡◌, true, cond, ◌&&◌, [], ◌*◌, ◌+◌, ◌/◌, ◌^◌, ◌≤◌, ◌<◌, eqb, length, drop};
 ghost use Rattle.text.specs.Bytes.{begins};
 ghost use Rattle.layout.specs.Rows.{rows_of, first_row, field, mark};
@@ -10,7 +12,7 @@ ghost use Rattle.fitting.specs.Fitting.{Fitted, is_edge, glimpse, glimpse_beneat
 use layout::{Place, Step};
 
 // The line is the first or the last of a block, or a field's: what it does, and how many bytes the text of its row has. Or nothing is told.
-#[derive(Drop)]
+#[derive(Clone, Copy)]
 pub enum Fit {
     Edge(Step, usize),
     Field(Step, usize),
@@ -19,7 +21,7 @@ pub enum Fit {
 
 // The text against one row: the line fits it, or goes further with the blocks that are being passed over and whether a mark was; or
 // nothing is told.
-#[derive(Drop)]
+#[derive(Clone, Copy)]
 enum Glimpse {
     Edge(Step, usize),
     Field(Step, usize),

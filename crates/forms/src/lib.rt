@@ -2,6 +2,8 @@
 //
 // Nothing here knows a slot: a message type hands its slots over as bytes. What is right stands in specs/Forms and specs/Slots,
 // over specs/Words, specs/Narrative and specs/Pool.
+#![tactic(auto)]
+
 pub mod narrative;
 pub mod pool;
 

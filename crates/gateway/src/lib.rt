@@ -2,6 +2,8 @@
 // them.
 //
 // What is right stands in the specs of the functions that the entries call; an entry only hands their answer out.
+#![tactic(auto)]
+
 mod answers;
 mod netting;
 

@@ -2,6 +2,8 @@
 // nothing is told of it.
 //
 // Nothing here knows a message type. What is right stands in specs/Glance, and what the steps tell each other in specs/Steps.
+#![tactic(auto)]
+
 ghost use Rattle.std.specs.Prelude.{◌≡◌, false, ◌≤◌, length};
 ghost use Rattle.layout.specs.Rows.{rows_of};
 ghost use Rattle.forms.specs.Slots.{slot_at};
@@ -19,7 +21,7 @@ const LAST: [u8; 1] = *b"-";
 
 // A line that was looked for, told or not: what it does, where its value begins and its text ends, and where the next line begins, all
 // from its own front. (The flag is one of the struct's, and not an enum around it, since the compiler then keeps all of it in registers.)
-#[derive(Drop)]
+#[derive(Clone, Copy)]
 struct Taken {
     told: bool,
     step: Step,

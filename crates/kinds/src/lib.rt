@@ -2,6 +2,8 @@
 // settlement on or after the trade date. The numbers 13 to 17.
 //
 // What is right stands in specs/Kinds.
+#![tactic(auto)]
+
 ghost use Rattle.std.specs.Prelude.{◌≡◌};
 ghost use Rattle.text.specs.Bytes.{same};
 ghost use Rattle.lines.specs.Verdicts.{refused};

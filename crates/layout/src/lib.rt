@@ -1,6 +1,8 @@
 // The layout of a message as a table: a line is held against the rows still ahead of it.
 //
 // Nothing here knows a tag: a message type is a table. What is right stands in specs/Rows and specs/Layout.
+#![tactic(auto)]
+
 ghost use Rattle.std.specs.Prelude.{◌≡◌, ◌*◌, ◌+◌, ◌/◌, ◌^◌, ◌≤◌, ◌<◌, eqb, length, drop, set, true, cond, ◌&&◌, ◌||◌, []};
 ghost use Rattle.text.specs.Bytes.{begins, same};
 ghost use Rattle.bars.specs.Bars.{surplus, strays};
@@ -13,7 +15,7 @@ const NO_SLOT: u64 = 8;
 const PASSED_OVER: u64 = 9;
 
 // A place in the table: the next row, and the row to come back to behind one of many blocks.
-#[derive(Drop)]
+#[derive(Clone, Copy)]
 pub struct Place {
     pub row: usize,
     pub back: usize,
@@ -21,7 +23,7 @@ pub struct Place {
 
 // What a line does: it is refused by its number, or taken for a slot whose text has `width` bytes (slot 0 for the first and
 // last lines of blocks); and the place behind it.
-#[derive(Drop)]
+#[derive(Clone, Copy)]
 pub struct Step {
     pub number: u64,
     pub slot: usize,
@@ -31,7 +33,7 @@ pub struct Step {
 
 // A line against one row: it is decided, or goes further with the blocks that are being passed over, whether it stands
 // first in one of many blocks and a mark was passed over, and whether a mandatory row was.
-#[derive(Drop)]
+#[derive(Clone, Copy)]
 pub enum Look {
     Decided(Step),
     Further(usize, bool, bool),

@@ -1,6 +1,8 @@
 // A message as lines: the line that begins at a place, and the first three things that can be wrong with a message.
 //
 // What is right stands in specs/Verdicts and specs/Lines.
+#![tactic(auto)]
+
 ghost use Rattle.std.specs.Prelude.{◌≡◌, true, false, ◌&&◌, cond, ℕ, ◌≤◌, ◌<◌, eqb, length, get_or};
 ghost use Rattle.text.specs.Bytes.{bytes, same};
 ghost use Rattle.text.specs.Classes.{is_between};
@@ -8,14 +10,14 @@ ghost use Rattle.lines.specs.Verdicts.{refused, pass, then};
 ghost use Rattle.lines.specs.Lines.{bare, byte_pass, end_pass, lines_pass, lines_of, ended, ending_width, line_at, start_behind};
 
 // What the desk gets back of a pass: a number of document 01, 0 for nothing wrong, and the line.
-#[derive(Drop)]
+#[derive(Clone, Copy)]
 pub struct Verdict {
     pub number: u64,
     pub line: usize,
 }
 
 // A line of a message: where its text ends, without its ending, and where the next line begins.
-#[derive(Drop)]
+#[derive(Clone, Copy)]
 pub struct Line {
     pub end: usize,
     pub next: usize,

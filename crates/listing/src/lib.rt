@@ -2,6 +2,8 @@
 //
 // What is right stands in specs/Rows. A row is held as seven texts, and composed in a line that has room for every one before
 // it goes to the caller's buffer, so that half of a row is never seen.
+#![tactic(auto)]
+
 ghost use Rattle.std.specs.Prelude.{◌≡◌, ◌++◌, ◌≤◌, length};
 ghost use Rattle.text.specs.Copy.{placed, after};
 ghost use Rattle.text.specs.Texts.{contents, text_of};
@@ -15,7 +17,7 @@ use text::Text;
 use trade::Trade;
 
 // The seven fields of a row.
-#[derive(Drop)]
+#[derive(Clone, Copy)]
 struct Row {
     message: Text,
     number: Text,

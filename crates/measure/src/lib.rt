@@ -1,6 +1,8 @@
 // How many bytes at the front of a text are the value of a slot, told by the slot's form, without a look for the end of the line.
 //
 // What is right stands in specs/Measure.
+#![tactic(auto)]
+
 ghost use Rattle.std.specs.Prelude.{◌≡◌, true, ◌+◌, ◌≤◌, length, take, get_or};
 ghost use Rattle.text.specs.Classes.{all_in};
 ghost use Rattle.forms.specs.Forms.{characters, words, amount, date, moment, narrative, pool_narrative};
@@ -11,7 +13,7 @@ use calendar::{Date, Moment};
 use text::Class;
 
 // So many bytes, or nothing is told.
-#[derive(Drop)]
+#[derive(Clone, Copy)]
 pub enum Width {
     Is(usize),
     Not,

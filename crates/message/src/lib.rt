@@ -1,6 +1,8 @@
 // The message of a record, written into a buffer that the caller lends.
 //
 // What is right stands in specs/Messages and specs/Writing, and for the parts of a message in writer's specs/Parts.
+#![tactic(auto)]
+
 ghost use Rattle.std.specs.Prelude.{◌≡◌, ◌≤◌, length};
 ghost use Rattle.text.specs.Copy.{placed, after};
 ghost use Rattle.stretches.specs.Stretches.{stretch_of};
@@ -13,7 +15,7 @@ ghost use Rattle.message.specs.Writing.{writing_of, written_over};
 use trade::Trade;
 
 // What a write answers: 0 and the length of the message, or the number of the refusal and 0.
-#[derive(Drop)]
+#[derive(Clone, Copy)]
 pub struct Writing {
     pub number: u64,
     pub length: usize,

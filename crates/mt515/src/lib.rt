@@ -1,6 +1,8 @@
 // The MT515: a message is read into its record, or refused with a number and a line.
 //
 // What is right stands in specs/Reading, over format's specs/Reading and values' specs/Mt515.
+#![tactic(auto)]
+
 ghost use Rattle.std.specs.Prelude.{◌≡◌, replicate};
 ghost use Rattle.trade.specs.Records.{blank_trade};
 ghost use Rattle.stretches.specs.Stretches.{slot_count, stretch_of};
@@ -16,7 +18,7 @@ use trade::Trade;
 use walk::Body;
 
 // What the desk gets back of a message: 0 and the record, or a number and a line with the blank record beside them.
-#[derive(Drop)]
+#[derive(Clone, Copy)]
 pub struct Reading {
     pub number: u64,
     pub line: usize,
@@ -24,7 +26,7 @@ pub struct Reading {
 }
 
 // What stands at the front of a text: how its piece is read, and how many bytes the piece has.
-#[derive(Drop)]
+#[derive(Clone, Copy)]
 pub struct Front {
     pub reading: Reading,
     pub length: usize,

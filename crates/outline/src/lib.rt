@@ -1,6 +1,8 @@
 // All fields of a message in one answer: of each where its value begins and where it ends.
 //
 // What is right stands in specs/Outline.
+#![tactic(auto)]
+
 ghost use Rattle.std.specs.Prelude.{◌≡◌};
 ghost use Rattle.outline.specs.Outline.{outline_of};
 
@@ -12,7 +14,7 @@ const SLOTS: [u8; FIELDS] =
     *b"\x00\x01\x02\x03\x04\x05\x06\x07\x08\x09\x0a\x0b\x0c\x0d\x0e\x0f\x10\x11\x12\x13\x14\x15\x1c\x1d";
 
 // What the caller gets back of a message: the number and line of its reading, and of each field where it begins and ends.
-#[derive(Drop)]
+#[derive(Clone, Copy)]
 pub struct Outline {
     pub number: u64,
     pub line: usize,

@@ -1,6 +1,8 @@
 // A record as 375 bytes, for programs in C. The crate `unpacked` goes the other way.
 //
 // What is right stands in specs/Packed.
+#![tactic(auto)]
+
 mod codes;
 mod fields;
 mod places;

@@ -1,11 +1,13 @@
 // The pieces of a batch, whichever message type its messages are of: where the piece at a position ends, and what stands there.
 //
 // What is right stands in specs/Pieces, and what calling again and again finds in specs/Calls.
+#![tactic(auto)]
+
 ghost use Rattle.std.specs.Prelude.{◌≡◌, ◌+◌, length, drop};
 ghost use Rattle.pieces.specs.Pieces.{piece_of};
 
 // What stands at a position: a message, accepted or refused; the end of the batch; nothing, since it is past the end.
-#[derive(Drop)]
+#[derive(Clone, Copy)]
 pub enum Turn {
     Message,
     Done,

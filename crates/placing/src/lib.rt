@@ -3,6 +3,8 @@
 // Nothing here knows a record: what it has for its slots is put by a few values at a time, from the k-th place on. What is right
 // stands in fill's specs/Runs and specs/Places. Beside what it puts each says how many bytes that is at most, so that one can tell
 // how long a text has room for all values of a record.
+#![tactic(auto)]
+
 ghost use Rattle.std.specs.Prelude.{◌≡◌, ◌≤◌, length};
 ghost use mathlib.Core.List.{[], ◌∷◌, flatten};
 ghost use Rattle.std.proofs.lemmas.List.Edits.{sets};

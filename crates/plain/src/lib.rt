@@ -1,6 +1,8 @@
 // The plain form of a message, asked for into a buffer that the caller lends.
 //
 // What is right stands in specs/Asking.
+#![tactic(auto)]
+
 ghost use Rattle.std.specs.Prelude.{◌≡◌, ◌≤◌, length};
 ghost use Rattle.text.specs.Copy.{placed, after};
 ghost use Rattle.message.specs.Plain.{plain_of};
@@ -10,7 +12,7 @@ ghost use Rattle.plain.specs.Asking.{asking_of, asked_over};
 use walk::Body;
 
 // What asking for a plain form answers: 0 and the length of the plain form, or the number and line of the refusal and 0.
-#[derive(Drop)]
+#[derive(Clone, Copy)]
 pub struct Asking {
     pub number: u64,
     pub line: usize,

@@ -1,6 +1,8 @@
 // A batch of pool messages, message by message: from a position the piece that begins there is read, and the position behind it is answered.
 //
 // What is right stands in specs/Batch.
+#![tactic(auto)]
+
 ghost use Rattle.std.specs.Prelude.{◌≡◌};
 ghost use Rattle.pool_batch.specs.Batch.{blank_reading, next_of};
 
@@ -8,7 +10,7 @@ use pieces::Turn;
 use pool::Reading;
 
 // What the desk gets back of a position: what stands there, how it is read, and the position to go on from.
-#[derive(Drop)]
+#[derive(Clone, Copy)]
 pub struct Answer {
     pub turn: Turn,
     pub reading: Reading,

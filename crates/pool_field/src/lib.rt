@@ -1,13 +1,15 @@
 // One field of a pool message: where the value of a slot stands, and that part of the message.
 //
 // What is right stands in specs/Field, over format's specs/Field.
+#![tactic(auto)]
+
 ghost use Rattle.std.specs.Prelude.{◌≡◌};
 ghost use Rattle.format.specs.Field.{front_of, field_of};
 ghost use Rattle.pool_values.specs.Pool.{pool};
 ghost use Rattle.pool_field.specs.Field.{place_of};
 
 // What the caller gets back of a slot: the read's number, and where the value stands in the message.
-#[derive(Drop)]
+#[derive(Clone, Copy)]
 pub struct Stretch {
     pub number: u64,
     pub offset: usize,

@@ -1,5 +1,7 @@
 // The MT515 of pool netting as bytes: the rows of its table, and the fixed text and form of each slot. The proofs hold both against
 // specs/Table and specs/Tree.
+#![tactic(auto)]
+
 ghost use Rattle.std.specs.Prelude.{◌≡◌, length};
 ghost use Rattle.sheets.specs.Trees.{table_of};
 ghost use Rattle.reader.specs.Take.{take_of};

@@ -1,6 +1,8 @@
 // A pool trade as it is held: the record, and how it is had from the values of a message's slots.
 //
 // What is right stands in specs/Records and specs/Narrative.
+#![tactic(auto)]
+
 mod narrative;
 mod words;
 
@@ -22,7 +24,7 @@ const PASSWORD: usize = 20;
 const SENDER: usize = 21;
 
 // The kinds of a pool message.
-#[derive(Drop)]
+#[derive(Clone, Copy)]
 pub enum Kind {
     Inst,
     Canc,
@@ -33,21 +35,21 @@ pub enum Kind {
 }
 
 // The delivery date of the pool, DDTE.
-#[derive(Drop)]
+#[derive(Clone, Copy)]
 pub enum Delivery {
     Absent,
     On(Date),
 }
 
 // A party: its member code and the contra reference.
-#[derive(Drop)]
+#[derive(Clone, Copy)]
 pub struct Party {
     pub code: Text,
     pub reference: Text,
 }
 
 // `cdr`: the pool has a CDR status, which CDRY says.
-#[derive(Drop)]
+#[derive(Clone, Copy)]
 pub struct PoolTrade {
     pub kind: Kind,
     pub password: Text,
@@ -72,7 +74,7 @@ pub struct PoolTrade {
 }
 
 // The parts of a record that are gathered by themselves: the trade's details,
-#[derive(Drop)]
+#[derive(Clone, Copy)]
 struct Details {
     trad: Moment,
     sett: Date,
@@ -83,7 +85,7 @@ struct Details {
 }
 
 // and the security, with what the narrative tells.
-#[derive(Drop)]
+#[derive(Clone, Copy)]
 struct Security {
     par: Par,
     cusip: Text,

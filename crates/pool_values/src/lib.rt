@@ -1,6 +1,8 @@
 // The values that a record has for the slots of a pool message.
 //
 // What is right stands in specs/Values and fill's specs/Places; specs/Writable says when a record is in form.
+#![tactic(auto)]
+
 mod narrative;
 mod slots;
 mod words;

@@ -3,6 +3,8 @@
 //
 // Nothing here knows a message type: the slots of its header's lines, its table and its slots are lent as bytes. What is right
 // stands in specs/Header and specs/Take.
+#![tactic(auto)]
+
 ghost use Rattle.std.specs.Prelude.{◌≡◌, cond, ◌+◌, ◌<◌, ◌^◌, eqb, length, set};
 ghost use Rattle.lines.specs.Verdicts.{refused, pass, then};
 ghost use Rattle.layout.specs.Rows.{rows_of};

@@ -2,6 +2,8 @@
 // record.
 //
 // What is right stands in specs/Reason.
+#![tactic(auto)]
+
 ghost use Rattle.std.specs.Prelude.{◌≡◌};
 ghost use Rattle.text.specs.Copy.{placed, after};
 ghost use Rattle.reason.specs.Reason.{has_reason, reason_in, good_reason, reason_text, reason_form};

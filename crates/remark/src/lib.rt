@@ -2,12 +2,14 @@
 // room for twenty c.
 //
 // What is right stands in specs/Remarks.
+#![tactic(auto)]
+
 ghost use Rattle.std.specs.Prelude.{◌≡◌};
 ghost use Rattle.text.specs.Copy.{placed, after};
 ghost use Rattle.remark.specs.Remarks.{contents, remark_of, in_form};
 
 // Thirty-five bytes, of which the first `len` are the text and the others are zero, where it is in form.
-#[derive(Drop)]
+#[derive(Clone, Copy)]
 pub struct Remark {
     pub bytes: [u8; 35],
     pub len: usize,

@@ -1,6 +1,8 @@
 // The search for one field: where the value of a slot stands in a message.
 //
 // Nothing here knows a message type: its table is lent as bytes. What is right stands in specs/Search.
+#![tactic(auto)]
+
 ghost use Rattle.std.specs.Prelude.{◌≡◌, ◌-◌, ◌≤◌, ◌<◌, length, take, drop, set};
 ghost use Rattle.lines.specs.Lines.{line_at};
 ghost use Rattle.layout.specs.Rows.{rows_of};
@@ -11,7 +13,7 @@ use layout::{Place, Step};
 use lines::Line;
 
 // A part of a message: where it begins, and how many bytes it has.
-#[derive(Drop)]
+#[derive(Clone, Copy)]
 pub struct Span {
     pub offset: usize,
     pub count: usize,
@@ -45,7 +47,7 @@ fn rest_of(from: usize, end: usize, front: usize) -> Span
 }
 
 // A line, and what the table says of it.
-#[derive(Drop)]
+#[derive(Clone, Copy)]
 struct Turn {
     line: Line,
     step: Step,

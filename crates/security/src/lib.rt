@@ -1,6 +1,8 @@
 // The check digit of a security: nine c, of which the ninth brings the sum of what the places add to a multiple of ten.
 //
 // What is right stands in specs/Security.
+#![tactic(auto)]
+
 ghost use Rattle.std.specs.Prelude.{◌≡◌, true, ◌≤◌};
 ghost use Rattle.text.specs.Classes.{is_c, is_code};
 ghost use Rattle.security.specs.Security.{worth, weighed, adds, sum_from, is_checked, security_number, security_form};

@@ -1,13 +1,15 @@
 // The status of an answer: one of the thirty values of 25D, held as its number in their list.
 //
 // What is right stands in specs/Statuses.
+#![tactic(auto)]
+
 ghost use Rattle.std.specs.Prelude.{◌≡◌};
 ghost use Rattle.text.specs.Bytes.{begins, same};
 ghost use Rattle.text.specs.Copy.{placed, after};
 ghost use Rattle.status.specs.Statuses.{status_of, status_text, status_form};
 
 // A number from 0 to 29, where it is in form.
-#[derive(Drop)]
+#[derive(Clone, Copy)]
 pub struct Status(pub usize);
 
 // Twenty bytes a line, as a message type holds its words: three that say nothing, the length of a value, the value.

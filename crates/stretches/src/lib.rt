@@ -2,6 +2,8 @@
 // field, by its slot.
 //
 // What is right stands in specs/Stretches and specs/Fields.
+#![tactic(auto)]
+
 ghost use Rattle.std.specs.Prelude.{◌≡◌, get_or, set};
 ghost use Rattle.stretches.specs.Stretches.{between, stretch_of};
 ghost use Rattle.stretches.specs.Fields.{begun_for, starts_handed, ends_handed};

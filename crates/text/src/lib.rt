@@ -2,6 +2,8 @@
 // putting bytes into a buffer that the caller lends.
 //
 // What is right stands in specs/: Bytes, Classes, Texts and Copy.
+#![tactic(auto)]
+
 ghost use Rattle.std.specs.Prelude.{◌≡◌, ◌+◌, ◌%◌, ◌<◌, ◌≤◌, length, take, drop};
 ghost use Rattle.text.specs.Bytes.{begins, same, before, little};
 ghost use Rattle.text.specs.Classes.{is_between, is_c, is_hyphened, in_class, all_in, is_all, is_code};
@@ -9,7 +11,7 @@ ghost use Rattle.text.specs.Texts.{contents, text_of, in_form_of, in_form};
 ghost use Rattle.text.specs.Copy.{placed, after};
 
 // The classes that the values of documents 01 and 02 are made of, and the zero byte behind a text.
-#[derive(Drop)]
+#[derive(Clone, Copy)]
 pub enum Class {
     C,
     Digit,
@@ -20,7 +22,7 @@ pub enum Class {
 }
 
 // A text of a record: twenty bytes, of which the first `len` are the text and the others are zero, where it is in form.
-#[derive(Drop)]
+#[derive(Clone, Copy)]
 pub struct Text {
     pub bytes: [u8; 20],
     pub len: usize,

@@ -1,6 +1,8 @@
 // A trade as it is held: the record, and how it is had from the values of a message's slots.
 //
 // What is right stands in specs/Narrative and specs/Records.
+#![tactic(auto)]
+
 mod narrative;
 mod words;
 
@@ -22,7 +24,7 @@ const PASSWORD: usize = 28;
 const SENDER: usize = 29;
 
 // The kinds of an MT515.
-#[derive(Drop)]
+#[derive(Clone, Copy)]
 pub enum Kind {
     Inst,
     Canc,
@@ -31,7 +33,7 @@ pub enum Kind {
 }
 
 // The service of the trade.
-#[derive(Drop)]
+#[derive(Clone, Copy)]
 pub enum Service {
     Sbod,
     Tftd,
@@ -39,21 +41,21 @@ pub enum Service {
 }
 
 // The give-up period; 0 days is a period.
-#[derive(Drop)]
+#[derive(Clone, Copy)]
 pub enum Period {
     Absent,
     Days(u64),
 }
 
 // A party: its member code, the contra reference and the trader's identifier.
-#[derive(Drop)]
+#[derive(Clone, Copy)]
 pub struct Party {
     pub code: Text,
     pub reference: Text,
     pub trader: Text,
 }
 
-#[derive(Drop)]
+#[derive(Clone, Copy)]
 pub struct Trade {
     pub password: Text,
     pub sender: Text,
@@ -78,7 +80,7 @@ pub struct Trade {
 }
 
 // The parts of a record that are gathered by themselves: the trade's details,
-#[derive(Drop)]
+#[derive(Clone, Copy)]
 struct Details {
     trad: Moment,
     sett: Date,
@@ -88,7 +90,7 @@ struct Details {
 }
 
 // and the security, with what the narrative tells.
-#[derive(Drop)]
+#[derive(Clone, Copy)]
 struct Security {
     par: Par,
     cusip: Text,

@@ -2,6 +2,8 @@
 // and the side of a trade.
 //
 // Nothing here knows a message type. What is right stands in specs/Typed, specs/Sides, specs/Payments and specs/Prep.
+#![tactic(auto)]
+
 pub mod payments;
 pub mod sides;
 
@@ -19,14 +21,14 @@ use calendar::{Date, DateRead, Moment, MomentRead, Time};
 use text::Text;
 
 // Whether the sender buys or sells.
-#[derive(Drop)]
+#[derive(Clone, Copy)]
 pub enum Side {
     Buyi,
     Sell,
 }
 
 // A sum of money that need not be there; a sum of zero is there.
-#[derive(Drop)]
+#[derive(Clone, Copy)]
 pub enum Payment {
     Absent,
     Of(Money),

@@ -1,6 +1,8 @@
 // The record that 375 bytes are, as the crate `packed` makes them, and its message.
 //
 // What is right stands in specs/Unpacked; specs/Back says that neither way loses anything.
+#![tactic(auto)]
+
 mod codes;
 mod places;
 
@@ -16,7 +18,7 @@ use trade::{Kind, Party, Period, Service, Trade};
 use typed::Side;
 
 // The record of some bytes; the blank record where they are none.
-#[derive(Drop)]
+#[derive(Clone, Copy)]
 pub struct Unpacked {
     pub good: bool,
     pub trade: Trade,

@@ -1,6 +1,8 @@
 // The values that a record has for the slots of an MT515.
 //
 // What is right stands in specs/Values and specs/Places; specs/Writable says when a record is in form.
+#![tactic(auto)]
+
 mod narrative;
 mod slots;
 pub mod words;

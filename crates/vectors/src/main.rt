@@ -3,6 +3,8 @@
 //
 // In the input a line of `# ` and a name stands before each message, which runs to the next such line, its bytes just as they
 // stand. No message here has a line that begins so; behind the header it would be 5.
+#![tactic(auto)]
+
 ghost use Rattle.std.specs.Prelude.{◌≤◌, length};
 
 use amount::Amount;

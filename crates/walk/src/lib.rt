@@ -2,6 +2,8 @@
 // and where the value stands is kept.
 //
 // Nothing here knows a message type: its table and its slots are lent as bytes. What is right stands in specs/Walk.
+#![tactic(auto)]
+
 ghost use Rattle.std.specs.Prelude.{◌≡◌, cond, ◌+◌, ◌-◌, ◌≤◌, ◌<◌, ◌^◌, eqb, length, take, drop, set};
 ghost use Rattle.lines.specs.Verdicts.{then};
 ghost use Rattle.layout.specs.Rows.{rows_of};
@@ -12,7 +14,7 @@ use layout::Place;
 use lines::Verdict;
 
 // What a walk comes to: a verdict, and where the value of each slot begins and ends.
-#[derive(Drop)]
+#[derive(Clone, Copy)]
 pub struct Body {
     pub verdict: Verdict,
     pub starts: [usize; stretches::SLOTS],

@@ -2,6 +2,8 @@
 //
 // Nothing here knows a message type or a record: the slots of the header's lines, the table, the slots and the values are lent, as
 // `fill` takes them. What is right stands in specs/Parts, over fill's specs/Filling and specs/Runs.
+#![tactic(auto)]
+
 pub mod amounts;
 
 ghost use Rattle.std.specs.Prelude.{◌≡◌, [], ◌∷◌};
