@@ -4,7 +4,8 @@
 usage: python3 tools/respell.py      at the top of the repository
 
 Types, facts and modules, which begin with a capital, keep their names. So do functions of src/, fields of their structs and texts in quotes.
-A lemma that would fall together with the definition that it is about gets `_lem` first.
+A lemma that would fall together with the definition that it is about gets `_lem` first. What a file calls the module of any message type,
+`Any`, is `AnyType`, since the kit's library has a word of that name.
 """
 
 import glob
@@ -12,6 +13,7 @@ import re
 import subprocess
 
 CAMEL = re.compile(r"(?<![A-Za-z0-9_\\])[a-z][a-z0-9]*(?:[A-Z][a-z0-9]*)+(?![A-Za-z0-9_])")
+ALIAS = re.compile(r"\bAny(?=\.)|(?<=\bas )Any\b")
 NUMBERED = re.compile(r"(?<=[a-z0-9])([A-Z])")
 QUOTED = re.compile(r'"(?:[^"\\\n]|\\.)*"')
 
@@ -51,7 +53,7 @@ def main():
     for f in sorted(glob.glob("crates/**/*.antt", recursive=True) + glob.glob("crates/**/*.rt", recursive=True)):
         with open(f, encoding="utf-8") as it:
             text = it.read()
-        turned = outside_quotes(lambda s: CAMEL.sub(lambda m: snake(m.group()), s), text)
+        turned = outside_quotes(lambda s: ALIAS.sub("AnyType", CAMEL.sub(lambda m: snake(m.group()), s)), text)
         if turned != text:
             with open(f, "w", encoding="utf-8") as it:
                 it.write(turned)

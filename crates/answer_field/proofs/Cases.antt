@@ -18,7 +18,7 @@ use Rattle.sheets.specs.Taking.{fit, next, seek, later_field, tell, move_of, fol
 use Rattle.search.specs.Search.{no_line, taken_for, span_from}
 use Rattle.walk.specs.Walk.{taken_in}
 use Rattle.format.specs.Changes.{ended}
-use Rattle.format.specs.Field as Any
+use Rattle.format.specs.Field as AnyType
 use Rattle.format.specs.Reading.{body_of}
 use Rattle.status.specs.Statuses.{statuses}
 use Rattle.answer_table.specs.Table.{slots, slot_of, last_field}
@@ -38,21 +38,21 @@ line_in : List ℕ → ℕ → Taken
 line_in m slot = cond (is_between 1 last_field slot) (taken_for slot (taken_in (body_of mt509 m))) no_line
 
 field_in : List ℕ → ℕ → List ℕ
-field_in m slot = drop (Any.front_of mt509 slot) (line_in m slot).value
+field_in m slot = drop (AnyType.front_of mt509 slot) (line_in m slot).value
 
 place_in : List ℕ → ℕ → Stretch
-place_in m slot = stretch 0 (span_from m (Any.front_of mt509 slot) (line_in m slot))
+place_in m slot = stretch 0 (span_from m (AnyType.front_of mt509 slot) (line_in m slot))
 
 module _ (m : List ℕ) (z : (read_of m).number ≡ 0) where
-  field_in_lem : (slot : ℕ) → Any.field_of mt509 m slot ≡ field_in m slot
-  unfolding Any.field_of Any.line_for Any.asked read_of line_in field_in
+  field_in_lem : (slot : ℕ) → AnyType.field_of mt509 m slot ≡ field_in m slot
+  unfolding AnyType.field_of AnyType.line_for AnyType.asked read_of line_in field_in
   field_in_lem slot = rw z
 
   place-in : (slot : ℕ) → place_of m slot ≡ place_in m slot
-  unfolding place_of Any.span_in Any.line_for Any.asked read_of line_in place_in
+  unfolding place_of AnyType.span_in AnyType.line_for AnyType.asked read_of line_in place_in
   place-in slot = rw z
 
-  fields_in_lem : (rows : List (ℕ × String)) → map (λ (row : ℕ × String). Any.field_of mt509 m row.0) rows ≡ map (λ (row : ℕ × String). field_in m row.0) rows
+  fields_in_lem : (rows : List (ℕ × String)) → map (λ (row : ℕ × String). AnyType.field_of mt509 m row.0) rows ≡ map (λ (row : ℕ × String). field_in m row.0) rows
   fields_in_lem [] = refl
   fields_in_lem (row ∷ rows) = rw (field_in_lem row.0, fields_in_lem rows)
 
@@ -66,11 +66,11 @@ accepted =
     (ap (λ (x : Reading). x.number) (head-eq_of_cons-eq e), ap (λ (x : Reading). x.number) (head-eq_of_cons-eq (tail-eq_of_cons-eq e)))
 
 values : map (λ (row : ℕ × String). field_in (ended "\n" r) row.0) fields ≡ map (λ (row : ℕ × String). bytes row.1) fields
-unfolding bytes begins same before parts is_between in_front cut_behind bare without_ending lines_of line_at with_taken fit next seek later_field tell move_of following walk taken_by chain lead_key repeated any_front goes_on strays stops bar_number has lacking reasons status general tree statuses slots slot_of body_of taken_in r ended fields no_line taken_for Any.front_of start_behind end_of line_in field_in
+unfolding bytes begins same before parts is_between in_front cut_behind bare without_ending lines_of line_at with_taken fit next seek later_field tell move_of following walk taken_by chain lead_key repeated any_front goes_on strays stops bar_number has lacking reasons status general tree statuses slots slot_of body_of taken_in r ended fields no_line taken_for AnyType.front_of start_behind end_of line_in field_in
 values = refl
 
 stand : map (λ (row : ℕ × ℕ × ℕ). place_in (ended "\r\n" r) row.0) places ≡ map (λ (row : ℕ × ℕ × ℕ). stretch 0 (record { offset = row.1; count = row.2 })) places
-unfolding bytes begins same before parts is_between in_front cut_behind bare without_ending lines_of line_at with_taken fit next seek later_field tell move_of following walk taken_by chain lead_key repeated any_front goes_on strays stops bar_number has lacking reasons status general tree statuses slots slot_of body_of taken_in r ended places no_line taken_for span_from Any.front_of start_behind end_of line_in place_in
+unfolding bytes begins same before parts is_between in_front cut_behind bare without_ending lines_of line_at with_taken fit next seek later_field tell move_of following walk taken_by chain lead_key repeated any_front goes_on strays stops bar_number has lacking reasons status general tree statuses slots slot_of body_of taken_in r ended places no_line taken_for span_from AnyType.front_of start_behind end_of line_in place_in
 stand = refl
 
 pub answered : Answered

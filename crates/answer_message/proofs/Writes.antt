@@ -15,7 +15,7 @@ use Rattle.format.proofs.Tests.{every}
 use Rattle.fill.specs.Filling.{lent}
 use Rattle.writer.specs.Parts.{message_parts, parts_for}
 use Rattle.writer.proofs.Messages.{optional_in, optional-are, parts_are}
-use Rattle.writer.proofs.Writes as Any
+use Rattle.writer.proofs.Writes as AnyType
 use Rattle.answer.specs.declared.Answer.{Answer}
 use Rattle.answer_table.specs.Table.{header, lines}
 use Rattle.answer_table.specs.Tree.{tree}
@@ -32,11 +32,11 @@ parts-lent rows fixed may text from to rows_are fixed-are long may-are =
 
 -- ---- the answers of a write
 
-pub writing-is : (a : Answer) (buf : List ℕ) {n k : ℕ} {now : List ℕ} → Any.Answer mt509 a buf n k now
+pub writing-is : (a : Answer) (buf : List ℕ) {n k : ℕ} {now : List ℕ} → AnyType.Answer mt509 a buf n k now
     → (record { number = n; length = k } ≡ writing_of a (length buf)) × (now ≡ written_over mt509 a buf)
 unfolding writing_of
 writing-is a buf w = (rw (w.is_number, w.is-length), w.is-over)
 
 pub judged : (a : Answer) (buf : List ℕ) (n : ℕ) → n ≡ judge_of mt509 a → (n ≡ 0 → ⊥)
     → (record { number = n; length = 0 } ≡ writing_of a (length buf)) × (buf ≡ written_over mt509 a buf)
-judged a buf n e h = writing-is a buf (Any.judged mt509 a buf n e h)
+judged a buf n e h = writing-is a buf (AnyType.judged mt509 a buf n e h)

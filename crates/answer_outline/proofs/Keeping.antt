@@ -16,7 +16,7 @@ use Rattle.format.specs.Kept.{kept_of}
 use Rattle.format.specs.Outline.{numbers, begun_at, slot_for, starts_kept, ends_kept}
 use Rattle.format.proofs.Tests.{every}
 use Rattle.format.proofs.Laws.{every_slot}
-use Rattle.format.proofs.Outline as Any
+use Rattle.format.proofs.Outline as AnyType
 use Rattle.status.specs.Statuses.{statuses}
 use Rattle.answer_table.specs.Table.{header, slots, slot_of}
 use Rattle.answer_table.specs.Tree.{reasons, status, general, tree}
@@ -28,7 +28,7 @@ use Rattle.answer_field.proofs.Values.{fields}
 use Rattle.answer_outline.specs.Outline.{receiver_line, outline_of}
 
 -- what is asked of a message type, by computation
-pub outlined : Any.Outlined mt509 receiver_line
+pub outlined : AnyType.Outlined mt509 receiver_line
 unfolding bytes good_slot every every_slot field_slots own_slots member_slots slots_of header statuses slots slot_of repeated chain general status reasons tree
 outlined = record { placed = refl; is-line = omega arith; password-bare = refl; line-bare = refl; password-whole = refl; line-whole = refl }
 
@@ -54,10 +54,10 @@ module _ (m : List ℕ) (b : Body) (is : b ≡ kept_of mt509 m) (starts ends : L
       → record { number = b.verdict.number; line = b.verdict.line; starts = starts; ends = ends } ≡ outline_of m
   unfolding outline_of read_of
   handed s e =
-      let h = Any.handed mt509 receiver_line layout laws fields outlined m b is in
+      let h = AnyType.handed mt509 receiver_line layout laws fields outlined m b is in
       rw (
         h.number,
         h.line,
-        s ∙ starts-are b.starts b.ends ∙ Any.starts-handed mt509 receiver_line m b h,
-        e ∙ ends-are b.ends ∙ Any.ends-handed mt509 receiver_line m b h,
+        s ∙ starts-are b.starts b.ends ∙ AnyType.starts-handed mt509 receiver_line m b h,
+        e ∙ ends-are b.ends ∙ AnyType.ends-handed mt509 receiver_line m b h,
       )

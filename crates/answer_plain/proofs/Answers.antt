@@ -14,7 +14,7 @@ use Rattle.sheets.specs.Sheets.{has}
 use Rattle.walk.specs.declared.Body.{Body}
 use Rattle.fill.proofs.Runs.{Put, Run}
 use Rattle.writer.specs.Parts.{parts_for}
-use Rattle.writer.proofs.Plain as Any
+use Rattle.writer.proofs.Plain as AnyType
 use Rattle.format.specs.Reading.{verdict_of}
 use Rattle.format.specs.Kept.{kept_of}
 use Rattle.format.specs.Plain.{plain_of}
@@ -49,4 +49,4 @@ amounts = record { placed = readable.placed; slots = refl; forms = refl; none = 
 -- the message's stretches are put
 pub put-plain : (m : List ℕ) → (verdict_of mt509 m).number ≡ 0 → (r : Body) → r ≡ kept_of mt509 m → length r.starts ≡ slot_count → length r.ends ≡ slot_count
     → (buf : List ℕ) {n : ℕ} {now : List ℕ} → Run buf 0 (parts_for mt509 (stretch_of m r.starts r.ends)) n now → length (plain_of mt509 m) ≤ length buf → Put buf 0 (plain_of mt509 m) n now
-put-plain m z r is l e = Any.put-plain mt509 layout laws m (accepted mt509 m z) [] amounts (none-moved mt509 layout laws m (accepted mt509 m z) r is l e)
+put-plain m z r is l e = AnyType.put-plain mt509 layout laws m (accepted mt509 m z) [] amounts (none-moved mt509 layout laws m (accepted mt509 m z) r is l e)

@@ -11,7 +11,7 @@ use Rattle.forms.specs.Slots.{slot_at}
 use Rattle.forms.proofs.Tables as Slots
 use Rattle.forms.proofs.Tables.{places}
 use Rattle.sheets.specs.Trees.{table_of}
-use Rattle.glance.proofs.Tables as Any
+use Rattle.glance.proofs.Tables as AnyType
 use Rattle.answer_table.specs.Table.{header, lines, slot_of}
 use Rattle.answer_table.specs.Tree.{tree}
 
@@ -21,9 +21,9 @@ slots-are t e l = Slots.slots-are lines t 69 e l
 
 -- what is said of bytes that are the header's slots, the rows and the slots is said of these
 abbrev pub Right : List ℕ → List ℕ → List ℕ → Type 0
-Right = Any.Right header (table_of tree) lines 69
+Right = AnyType.Right header (table_of tree) lines 69
 
 pub lent-right : (P : List Row → (ℕ → Slot) → List ℕ → Type 0) {heads rows slots : List ℕ} → Right heads rows slots
     → P (rows_of rows) (slot_at slots) heads → P (table_of tree) slot_of header
 unfolding slot_of bytes
-lent-right P r p = Any.lent-right header (table_of tree) lines 69 P r p
+lent-right P r p = AnyType.lent-right header (table_of tree) lines 69 P r p

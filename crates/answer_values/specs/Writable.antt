@@ -6,7 +6,7 @@ use Rattle.text.specs.declared.Class.TheVariants.{Hyphened}
 use Rattle.typed.specs.Prep.{prep_form}
 use Rattle.remark.specs.Remarks.{contents as remark_text, in_form as remark_form}
 use Rattle.remark.specs.declared.Remark.{Remark}
-use Rattle.format.specs.Writable as Any
+use Rattle.format.specs.Writable as AnyType
 use Rattle.format.specs.Writable.{hold}
 use Rattle.status.specs.Statuses.{status_form}
 use Rattle.answer.specs.Records.{password_slot, receiver_slot, reason_at}
@@ -20,13 +20,13 @@ use Rattle.answer_table.specs.Tree.{tree}
 
 -- a text of the record is in form, and is a value of its slot, or absent: of c, of c and `-`, and the text of a reason
 abbrev pub fitted : ℕ → Text → Bool
-fitted slot x = Any.fitted tree slot_of slot x
+fitted slot x = AnyType.fitted tree slot_of slot x
 
 abbrev pub assigned : ℕ → Text → Bool
-assigned slot x = Any.fitted_in tree slot_of slot (in_form_of Hyphened 0 20 x) (contents x)
+assigned slot x = AnyType.fitted_in tree slot_of slot (in_form_of Hyphened 0 20 x) (contents x)
 
 abbrev pub remarked : ℕ → Remark → Bool
-remarked slot r = Any.fitted_in tree slot_of slot (remark_form 0 35 r) (remark_text r)
+remarked slot r = AnyType.fitted_in tree slot_of slot (remark_form 0 35 r) (remark_text r)
 
 -- a reason stands where it has a code
 unfoldable pub stands : Reason → Bool

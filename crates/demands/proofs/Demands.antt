@@ -6,7 +6,7 @@ use mathlib.Core.List.{List}
 use lib.ListN.{length, get_or}
 use borrow.Author.Tests.{eq-eqb}
 use Rattle.format.specs.Demands as Every
-use Rattle.format.specs.Writing as Any
+use Rattle.format.specs.Writing as AnyType
 use Rattle.format.proofs.Demands as Proved
 use Rattle.values.specs.Mt515.{mt515}
 use Rattle.values.proofs.Laid.{layout}
@@ -28,7 +28,7 @@ unfolding writes
 broadest-takes = ap (λ (ns : List ℕ). get_or ns 0 1) answered.1
 
 broadest-long : length (message_of broadest) ≡ 822
-unfolding writes Any.write_length
+unfolding writes AnyType.write_length
 broadest-long =
     let e : write_length broadest 822 ≡ 822 = ap (λ (ns : List ℕ). get_or ns 0 0) answered.2 in
     rw broadest-takes at e
@@ -36,7 +36,7 @@ broadest-long =
 -- ---- the demands
 
 pub demands : Demands
-unfolding read_of Any.writable broadest
+unfolding read_of AnyType.writable broadest
 demands =
     record {
       accepts-lawful = any.accepts-lawful;

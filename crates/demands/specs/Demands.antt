@@ -13,7 +13,7 @@ use Rattle.mt515.specs.declared.Reading.{Reading}
 use Rattle.message.specs.Messages.{message_of}
 use Rattle.message.specs.Plain.{plain_of}
 use Rattle.message.specs.Writing.{write_number, write_length, written_over, writable}
-use Rattle.format.specs.Lawful as Any
+use Rattle.format.specs.Lawful as AnyType
 use Rattle.format.specs.Demands as Every
 use Rattle.values.specs.Mt515.{mt515}
 
@@ -21,10 +21,10 @@ use Rattle.values.specs.Mt515.{mt515}
 -- lines are those behind the header, whose values have their forms, and whose record meets the rules of its kind (format's
 -- specs/Lawful); and what it says of a slot, behind the slot's fixed text
 abbrev pub Lawful : List ℕ → Type 0
-Lawful m = Any.Lawful mt515 m
+Lawful m = AnyType.Lawful mt515 m
 
 abbrev pub said_in : List ℕ → List Entry → ℕ → List ℕ
-said_in m es slot = Any.said_in mt515 m es slot
+said_in m es slot = AnyType.said_in mt515 m es slot
 
 abbrev pub Accepted : List ℕ → Type 0
 Accepted m = (read_of m).number ≡ 0

@@ -13,7 +13,7 @@ use Rattle.layout.specs.Layout.{Taken, with_taken}
 use Rattle.sheets.specs.Trees.{chain}
 use Rattle.sheets.specs.Sheets.{has, lacking}
 use Rattle.sheets.specs.Taking.{fit, next, seek, later_field, tell, move_of, following, walk, taken_by}
-use Rattle.format.specs.Field as Any
+use Rattle.format.specs.Field as AnyType
 use Rattle.format.specs.Reading.{body_of}
 use Rattle.table.specs.Table.{slots, slot_of}
 use Rattle.table.specs.Tree.{general, pool, details, tree}
@@ -40,11 +40,11 @@ offset_in m slot = end_of m (line_in m slot).line - length (field_in m slot)
 
 module _ (m : List ℕ) (z : (read_of m).number ≡ 0) where
   field_in_lem : (slot : ℕ) → field_of m slot ≡ field_in m slot
-  unfolding Any.field_of Any.line_for Any.asked read_of line_in field_in
+  unfolding AnyType.field_of AnyType.line_for AnyType.asked read_of line_in field_in
   field_in_lem slot = rw z
 
   offset-in : (slot : ℕ) → (place_of m slot).offset ≡ offset_in m slot
-  unfolding place_of Any.span_in span_from Any.line_for Any.asked read_of line_in field_in offset_in
+  unfolding place_of AnyType.span_in span_from AnyType.line_for AnyType.asked read_of line_in field_in offset_in
   offset-in slot = rw z
 
   fields_in_lem : (rows : List (ℕ × String)) → map (λ (row : ℕ × String). field_of m row.0) rows ≡ map (λ (row : ℕ × String). field_in m row.0) rows
@@ -57,11 +57,11 @@ accepted =
     (ap (λ (r : Reading). r.number) (head-eq_of_cons-eq e), ap (λ (r : Reading). r.number) (head-eq_of_cons-eq (tail-eq_of_cons-eq e)))
 
 values : map (λ (row : ℕ × String). field_in (ended "\n" b) row.0) fields ≡ map (λ (row : ℕ × String). bytes row.1) fields
-unfolding bytes begins same before is_between in_front cut_behind bare without_ending lines_of line_at with_taken fit next seek later_field tell move_of following walk taken_by chain has lacking general pool details tree slots slot_of body_of taken_in b ended fields no_line taken_for Any.front_of start_behind end_of line_in field_in
+unfolding bytes begins same before is_between in_front cut_behind bare without_ending lines_of line_at with_taken fit next seek later_field tell move_of following walk taken_by chain has lacking general pool details tree slots slot_of body_of taken_in b ended fields no_line taken_for AnyType.front_of start_behind end_of line_in field_in
 values = refl
 
 places : (offset_in (ended "\n" b) 4 ≡ 108) × (offset_in (ended "\r\n" b) 4 ≡ 117) × (offset_in (ended "\n" b) 15 ≡ 306) × (offset_in (ended "\r\n" b) 21 ≡ 470)
-unfolding bytes begins same before is_between in_front cut_behind bare without_ending lines_of line_at with_taken fit next seek later_field tell move_of following walk taken_by chain has lacking general pool details tree slots slot_of body_of taken_in b ended fields no_line taken_for Any.front_of start_behind end_of line_in field_in offset_in
+unfolding bytes begins same before is_between in_front cut_behind bare without_ending lines_of line_at with_taken fit next seek later_field tell move_of following walk taken_by chain has lacking general pool details tree slots slot_of body_of taken_in b ended fields no_line taken_for AnyType.front_of start_behind end_of line_in field_in offset_in
 places = (refl, refl, refl, refl)
 
 pub answered : Answered

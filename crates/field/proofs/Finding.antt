@@ -11,7 +11,7 @@ use Rattle.text.specs.Bytes.{bytes}
 use Rattle.sheets.specs.Slots.{must_slots, first_slots}
 use Rattle.sheets.specs.Sheets.{has}
 use Rattle.search.specs.declared.Span.{Span}
-use Rattle.format.specs.Field as Any
+use Rattle.format.specs.Field as AnyType
 use Rattle.format.proofs.Field as Proved
 use Rattle.format.proofs.Finding as Found
 use Rattle.format.proofs.Finding.{part_in, part-is, is-named}
@@ -27,7 +27,7 @@ use Rattle.field.specs.declared.Stretch.{Stretch}
 use Rattle.field.proofs.Values.{fields, told-begins}
 use Rattle.field.proofs.Steps.{stretch}
 
-any : Any.Finding mt515
+any : AnyType.Finding mt515
 any = Proved.finding mt515 layout laws fields
 
 -- the code's answer

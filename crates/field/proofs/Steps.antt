@@ -4,7 +4,7 @@ use Prim.Native.Nat.{ℕ}
 use mathlib.Core.Path.{◌≡◌, ap}
 use mathlib.Core.List.{List}
 use Rattle.search.specs.declared.Span.{Span}
-use Rattle.format.specs.Reading as Any
+use Rattle.format.specs.Reading as AnyType
 use Rattle.format.proofs.Finding.{Found}
 use Rattle.values.specs.Mt515.{mt515}
 use Rattle.mt515.specs.Reading.{read_of}
@@ -20,6 +20,6 @@ pub whole : (m : List ℕ) (slot : ℕ) {number : ℕ} {s : Span} → Found mt51
 unfolding place_of read_of
 whole m slot f = rw (f.is_number, f.is-span)
 
-pub number_is : (m : List ℕ) {r : Reading} → r ≡ read_of m → r.number ≡ (Any.read_of mt515 m).number
+pub number_is : (m : List ℕ) {r : Reading} → r ≡ read_of m → r.number ≡ (AnyType.read_of mt515 m).number
 unfolding read_of
 number_is m e = ap (λ (r : Reading). r.number) e

@@ -3,20 +3,20 @@
 -- the empty stretch at the message's start. Slots are numbered as in table's `specs/Table`: 21 have a value. It is what format's
 -- specs/Field says of any message type.
 use Rattle.std.specs.Prelude.{ℕ, List}
-use Rattle.format.specs.Field as Any
+use Rattle.format.specs.Field as AnyType
 use Rattle.values.specs.Mt515.{mt515}
 use Rattle.mt515.specs.Reading.{read_of}
 use Rattle.field.specs.declared.Stretch.{Stretch}
 
 -- the bytes in front of the value: the fixed text, and behind 70E's the one that ends `GSCC/`
 abbrev pub front_of : ℕ → ℕ
-front_of slot = Any.front_of mt515 slot
+front_of slot = AnyType.front_of mt515 slot
 
 abbrev pub field_of : List ℕ → ℕ → List ℕ
-field_of m slot = Any.field_of mt515 m slot
+field_of m slot = AnyType.field_of mt515 m slot
 
 -- the read's number, and where the field stands
 unfoldable pub place_of : List ℕ → ℕ → Stretch
 place_of m slot =
-    let span = Any.span_in mt515 m slot in
+    let span = AnyType.span_in mt515 m slot in
     record { number = (read_of m).number; offset = span.offset; count = span.count }

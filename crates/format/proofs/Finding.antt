@@ -27,7 +27,7 @@ use Rattle.format.specs.Format.{Format}
 use Rattle.format.specs.Reading.{read_of}
 use Rattle.format.specs.Lawful.{said_in, Lawful}
 use Rattle.format.specs.Demands.{Accepted, Demands}
-use Rattle.format.specs.Field as Any
+use Rattle.format.specs.Field as AnyType
 use Rattle.format.specs.Field.{nowhere, front_of, field_of, span_in}
 use Rattle.format.proofs.Tests.{number-form}
 use Rattle.format.proofs.Laws.{Layout, Laws}
@@ -73,7 +73,7 @@ module _ (F : Format) (m : List ℕ) (slot : ℕ) where
 
 -- ---- what was found is a part of the message
 
-module _ (F : Format) (N : Any.Finding F) (m : List ℕ) (slot offset count : ℕ) (a : offset ≡ (span_in F m slot).offset) (b : count ≡ (span_in F m slot).count) where
+module _ (F : Format) (N : AnyType.Finding F) (m : List ℕ) (slot offset count : ℕ) (a : offset ≡ (span_in F m slot).offset) (b : count ≡ (span_in F m slot).count) where
   pub part_in : offset + count ≤ length m
   part_in = rw (a, b) (N.is-part m slot).0
 
@@ -85,7 +85,7 @@ module _ (F : Format) (N : Any.Finding F) (m : List ℕ) (slot offset count : �
 -- ---- an answer in the type's own words, which are put together of a number and a stretch: nothing of a refused message, nothing for a
 -- number that names no field, and of an accepted message nothing for the slots that it does not have
 
-module _ (F : Format) (D : Demands F) (N : Any.Finding F) {S : Type 0} (put : ℕ → Span → S) (span : S → Span) (back : (n : ℕ) (s : Span) → span (put n s) ≡ s) where
+module _ (F : Format) (D : Demands F) (N : AnyType.Finding F) {S : Type 0} (put : ℕ → Span → S) (span : S → Span) (back : (n : ℕ) (s : Span) → span (put n s) ≡ s) where
   abbrev placed : List ℕ → ℕ → S
   placed m slot = put (read_of F m).number (span_in F m slot)
 
@@ -125,7 +125,7 @@ module _ (F : Format) (k n : ℕ) (key : List ℕ) (only : (s : ℕ) → F.beyon
       go false e = absurd (more (only s ∙ rw e))
 
   -- what is left out of it, in front of the field
-  module _ (L : Layout F) (N : Any.Finding F) (m : List ℕ) (w : Lawful F m) where
+  module _ (L : Layout F) (N : AnyType.Finding F) (m : List ℕ) (w : Lawful F m) where
     pub said-behind : has (must_slots F.tree) k ≡ true → is_between 1 F.fields k ≡ true → said_in F m w.sheet k ≡ take n key ++ field_of F m k
     said-behind must named =
         let h = musts F.tree w.sheet k w.laid must in

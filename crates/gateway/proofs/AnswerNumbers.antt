@@ -9,7 +9,7 @@ use Rattle.lines.proofs.Rules.{chained, numbered, chained-few}
 use Rattle.pieces.specs.Pieces.{piece_of}
 use Rattle.pieces.specs.Calls.{turn_of}
 use Rattle.pieces.specs.declared.Turn.{Turn}
-use Rattle.format.specs.Reading as Any
+use Rattle.format.specs.Reading as AnyType
 use Rattle.format.proofs.Numbers.{few, Few, read-few, plain-few}
 use Rattle.answer.specs.declared.Answer.{Answer}
 use Rattle.answer_rules.specs.Rules.{record_pass, answer_pass}
@@ -25,17 +25,17 @@ unfolding answer_pass record_pass chained numbered
 rules-few function a = chained-few 22 ((_, 13) ∷ (_, 14) ∷ (_, 15) ∷ []) refl
 
 -- and 22, which is the layout's
-verdict-few : (m : List ℕ) → Few 22 (Any.verdict_of mt509 m)
+verdict-few : (m : List ℕ) → Few 22 (AnyType.verdict_of mt509 m)
 verdict-few = read-few mt509 22 (few _ _ refl) bars-22 (λ value a. rules-few (value 2) a)
 
 next-few : (turn : Turn) (piece : List ℕ) → (says_of turn piece).number ≤ 22
-unfolding says_of blank_reading read_of Any.read_of Any.reading
+unfolding says_of blank_reading read_of AnyType.read_of AnyType.reading
 next-few Turn.Message piece = let h = verdict-few piece in omega (arith, h)
 next-few Turn.Done piece = few _ _ refl
 next-few Turn.Past piece = few _ _ refl
 
 pub numbers : AnswerNumbers
-unfolding read_of Any.read_of Any.reading next_of
+unfolding read_of AnyType.read_of AnyType.reading next_of
 numbers =
     record {
       read = verdict-few;

@@ -9,7 +9,7 @@ use Rattle.lines.proofs.Rules.{chained, numbered, chained-few}
 use Rattle.pieces.specs.Pieces.{piece_of}
 use Rattle.pieces.specs.Calls.{turn_of}
 use Rattle.pieces.specs.declared.Turn.{Turn}
-use Rattle.format.specs.Reading as Any
+use Rattle.format.specs.Reading as AnyType
 use Rattle.format.proofs.Numbers.{few, Few, then-few, read-few, plain-few, write-few}
 use Rattle.trade.specs.declared.Trade.{Trade}
 use Rattle.kinds.specs.Kinds.{record_pass, kinds_pass}
@@ -35,13 +35,13 @@ verdict-few : (m : List ℕ) → Few 17 (verdict_of m)
 verdict-few = read-few mt515 17 (few _ _ refl) (no-bars _) (λ value t. kinds-few (value 2) t)
 
 next-few : (turn : Turn) (piece : List ℕ) → (says_of turn piece).number ≤ 21
-unfolding says_of blank_reading read_of Any.read_of Any.reading
+unfolding says_of blank_reading read_of AnyType.read_of AnyType.reading
 next-few Turn.Message piece = let h = verdict-few piece in omega (arith, h)
 next-few Turn.Done piece = few _ _ refl
 next-few Turn.Past piece = few _ _ refl
 
 pub numbers : Numbers
-unfolding read_of Any.read_of Any.reading next_of
+unfolding read_of AnyType.read_of AnyType.reading next_of
 numbers =
     record {
       read = verdict-few;

@@ -3,10 +3,10 @@
 --   14 to 17  the rules of the kinds
 --   20  the narrative is over 35 characters, counted from `GSCC`
 use Rattle.std.specs.Prelude.{ℕ}
-use Rattle.format.specs.Writing as Any
+use Rattle.format.specs.Writing as AnyType
 use Rattle.trade.specs.declared.Trade.{Trade}
 use Rattle.values.specs.Mt515.{mt515}
 
 -- the first of them, or 0
 abbrev pub judge_of : Trade → ℕ
-judge_of t = Any.judge_of mt515 t
+judge_of t = AnyType.judge_of mt515 t

@@ -15,7 +15,7 @@ use Rattle.format.proofs.Demands as Demands
 use Rattle.fill.specs.Filling.{lent}
 use Rattle.writer.specs.Parts.{message_parts, parts_for}
 use Rattle.writer.proofs.Messages.{optional_in, optional-are, parts_are}
-use Rattle.writer.proofs.Writes as Any
+use Rattle.writer.proofs.Writes as AnyType
 use Rattle.writer.proofs.Writes.{Answer}
 use Rattle.trade.specs.declared.Trade.{Trade}
 use Rattle.table.specs.Table.{header, lines}
@@ -42,7 +42,7 @@ writing-is t buf a = (rw (a.is_number, a.is-length), a.is-over)
 
 pub judged : (t : Trade) (buf : List ℕ) (n : ℕ) → n ≡ judge_of t → (n ≡ 0 → ⊥)
     → (record { number = n; length = 0 } ≡ writing_of t (length buf)) × (buf ≡ written_over t buf)
-judged t buf n e h = writing-is t buf (Any.judged mt515 t buf n e h)
+judged t buf n e h = writing-is t buf (AnyType.judged mt515 t buf n e h)
 
 pub writable-judged : (t : Trade) → writable t ≡ true → judge_of t ≡ 0
 writable-judged t h = Demands.writable-judged mt515 t h

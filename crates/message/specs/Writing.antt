@@ -1,17 +1,17 @@
 -- Document 01, "Order in writing", of the MT515: 18, 14, 15, 16, 17, 20, 19. A refused write answers length 0 and changes no byte; an
 -- accepted one answers the length, and bytes after it keep their values. It is what format's specs/Writing says of any message type.
 use Rattle.std.specs.Prelude.{ℕ, Bool, List}
-use Rattle.format.specs.Writing as Any
+use Rattle.format.specs.Writing as AnyType
 use Rattle.trade.specs.declared.Trade.{Trade}
 use Rattle.values.specs.Mt515.{mt515}
 use Rattle.message.specs.declared.Writing.{Writing}
 
 -- the number of a write into a buffer of so many bytes, and the length that it answers
 abbrev pub write_number : Trade → ℕ → ℕ
-write_number t room = Any.write_number mt515 t room
+write_number t room = AnyType.write_number mt515 t room
 
 abbrev pub write_length : Trade → ℕ → ℕ
-write_length t room = Any.write_length mt515 t room
+write_length t room = AnyType.write_length mt515 t room
 
 -- its answer
 unfoldable pub writing_of : Trade → ℕ → Writing
@@ -19,8 +19,8 @@ writing_of t room = record { number = write_number t room; length = write_length
 
 -- and what the buffer holds afterwards
 abbrev pub written_over : Trade → List ℕ → List ℕ
-written_over t buf = Any.written_over mt515 t buf
+written_over t buf = AnyType.written_over mt515 t buf
 
 -- a record is writable when a buffer of 822 bytes takes it without refusal
 abbrev pub writable : Trade → Bool
-writable t = Any.writable mt515 t
+writable t = AnyType.writable mt515 t

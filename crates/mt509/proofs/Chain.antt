@@ -8,7 +8,7 @@ use Rattle.lines.specs.declared.Verdict.{Verdict}
 use Rattle.sheets.specs.Trees.{chain}
 use Rattle.sheets.specs.Notation.{repeated}
 use Rattle.sheets.specs.Slots.{field_slots, own_slots, member_slots, slots_of}
-use Rattle.format.specs.Reading as Any
+use Rattle.format.specs.Reading as AnyType
 use Rattle.format.proofs.Laws.{every_slot}
 use Rattle.format.proofs.Tests.{every}
 use Rattle.format.proofs.Chain.{Readable, told-refused, told-accepted}
@@ -43,11 +43,11 @@ module _ (value : ℕ → List ℕ) (v : Verdict) (f : List ℕ) (a : Answer) (i
 -- ---- what is said of a message
 
 -- the piece at the front of a text, as it was read
-pub fronted : (s : List ℕ) {a : Any.Read Answer} {n : ℕ} → Front mt509 s a n → {r : Reading} → r ≡ told a → record { reading = r; length = n } ≡ front_of s
+pub fronted : (s : List ℕ) {a : AnyType.Read Answer} {n : ℕ} → Front mt509 s a n → {r : Reading} → r ≡ told a → record { reading = r; length = n } ≡ front_of s
 unfolding front_of read_of
 fronted s f e = rw (e, f.0, f.1)
 
 -- the verdict of a reading
-pub verdict-is : (m : List ℕ) {r : Reading} → r ≡ read_of m → record { number = r.number; line = r.line } ≡ Any.verdict_of mt509 m
-unfolding read_of Any.read_of Any.reading
+pub verdict-is : (m : List ℕ) {r : Reading} → r ≡ read_of m → record { number = r.number; line = r.line } ≡ AnyType.verdict_of mt509 m
+unfolding read_of AnyType.read_of AnyType.reading
 verdict-is m e = ap (λ (x : Reading). record { number = x.number; line = x.line }) e

@@ -5,7 +5,7 @@ use Rattle.std.specs.Prelude.{ℕ, List, length}
 use Rattle.lines.specs.declared.Verdict.{Verdict}
 use Rattle.pieces.specs.Pieces.{piece_of}
 use Rattle.walk.specs.declared.Body.{Body}
-use Rattle.format.specs.Reading as Any
+use Rattle.format.specs.Reading as AnyType
 use Rattle.format.specs.Kept as Kept
 use Rattle.trade.specs.declared.Trade.{Trade}
 use Rattle.values.specs.Mt515.{mt515}
@@ -13,18 +13,18 @@ use Rattle.mt515.specs.declared.Reading.{Reading}
 use Rattle.mt515.specs.declared.Front.{Front}
 
 -- a number and a line beside a record, as the code answers them
-abbrev pub told : Any.Read Trade → Reading
+abbrev pub told : AnyType.Read Trade → Reading
 told r = record { number = r.number; line = r.line; trade = r.held }
 
 abbrev pub verdict_of : List ℕ → Verdict
-verdict_of m = Any.verdict_of mt515 m
+verdict_of m = AnyType.verdict_of mt515 m
 
 unfoldable pub read_of : List ℕ → Reading
-read_of m = told (Any.read_of mt515 m)
+read_of m = told (AnyType.read_of mt515 m)
 
 -- the rules of line 0, of the values of a message
 unfoldable pub judged : (ℕ → List ℕ) → Reading
-judged value = told (Any.reading mt515.blank (Any.rules_of mt515 value) (mt515.record_of value))
+judged value = told (AnyType.reading mt515.blank (AnyType.rules_of mt515 value) (mt515.record_of value))
 
 -- the piece at the front of a text, read as if alone, and how many bytes it has
 unfoldable pub front_of : List ℕ → Front

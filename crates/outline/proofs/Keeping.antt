@@ -13,7 +13,7 @@ use Rattle.walk.specs.declared.Body.{Body}
 use Rattle.format.specs.Outline.{numbers, begun_at, slot_for, starts_kept, ends_kept}
 use Rattle.format.proofs.Tests.{every}
 use Rattle.format.proofs.Laws.{every_slot}
-use Rattle.format.proofs.Outline as Any
+use Rattle.format.proofs.Outline as AnyType
 use Rattle.trade.specs.Records.{narrative_slot}
 use Rattle.table.specs.Table.{header, slots, slot_of}
 use Rattle.table.specs.Tree.{general, pool, details, tree}
@@ -25,7 +25,7 @@ use Rattle.field.proofs.Values.{fields}
 use Rattle.outline.specs.Outline.{sender_line, outline_of}
 
 -- what is asked of a message type, by computation
-pub outlined : Any.Outlined mt515 sender_line
+pub outlined : AnyType.Outlined mt515 sender_line
 unfolding bytes good_slot every every_slot field_slots own_slots member_slots slots_of header slots slot_of general pool details tree
 outlined = record { placed = refl; is-line = omega arith; password-bare = refl; line-bare = refl; password-whole = refl; line-whole = refl }
 
@@ -51,10 +51,10 @@ module _ (m : List ℕ) (b : Body) (is : b ≡ kept_of m) (starts ends : List �
       → record { number = b.verdict.number; line = b.verdict.line; starts = starts; ends = ends } ≡ outline_of m
   unfolding outline_of read_of
   handed s e =
-      let h = Any.handed mt515 sender_line layout laws fields outlined m b is in
+      let h = AnyType.handed mt515 sender_line layout laws fields outlined m b is in
       rw (
         h.number,
         h.line,
-        s ∙ starts-are b.starts b.ends ∙ Any.starts-handed mt515 sender_line m b h,
-        e ∙ ends-are b.ends ∙ Any.ends-handed mt515 sender_line m b h,
+        s ∙ starts-are b.starts b.ends ∙ AnyType.starts-handed mt515 sender_line m b h,
+        e ∙ ends-are b.ends ∙ AnyType.ends-handed mt515 sender_line m b h,
       )

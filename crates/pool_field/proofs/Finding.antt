@@ -10,7 +10,7 @@ use lib.ListN.{length, take, drop}
 use Rattle.text.specs.Bytes.{bytes}
 use Rattle.sheets.specs.Slots.{must_slots, first_slots}
 use Rattle.sheets.specs.Sheets.{has}
-use Rattle.format.specs.Field as Any
+use Rattle.format.specs.Field as AnyType
 use Rattle.format.proofs.Field as Proved
 use Rattle.format.proofs.Finding.{part_in, part-is, is-named, said-behind}
 use Rattle.pool_trade.specs.Records.{narrative_slot}
@@ -23,7 +23,7 @@ use Rattle.pool_field.specs.Finding.{Finding}
 use Rattle.pool_field.specs.declared.Stretch.{Stretch}
 use Rattle.pool_field.proofs.Values.{fields, told-begins}
 
-any : Any.Finding pool
+any : AnyType.Finding pool
 any = Proved.finding pool layout laws fields
 
 -- the code's answer
@@ -32,7 +32,7 @@ module _ (m : List ℕ) (slot : ℕ) (r : Stretch) (is : r ≡ place_of m slot) 
   unfolding place_of
   stretch-in = part_in pool any m slot r.offset r.count (ap (λ (s : Stretch). s.offset) is) (ap (λ (s : Stretch). s.count) is)
 
-  pub stretch-is : take (r.offset + r.count - r.offset) (drop r.offset m) ≡ Any.field_of pool m slot
+  pub stretch-is : take (r.offset + r.count - r.offset) (drop r.offset m) ≡ AnyType.field_of pool m slot
   unfolding place_of
   stretch-is = part-is pool any m slot r.offset r.count (ap (λ (s : Stretch). s.offset) is) (ap (λ (s : Stretch). s.count) is)
 

@@ -4,7 +4,7 @@ use mathlib.Core.Path.{◌≡◌, refl, sym}
 use mathlib.Core.Bool.{true}
 use lib.ListN.{length}
 use Rattle.lines.proofs.Laws.{then-zero}
-use Rattle.format.proofs.Round as Any
+use Rattle.format.proofs.Round as AnyType
 use Rattle.format.proofs.Judging.{nothing-wrong}
 use Rattle.pool_trade.specs.declared.PoolTrade.{PoolTrade}
 use Rattle.pool_kinds.specs.Kinds.{record_pass}
@@ -19,4 +19,4 @@ module _ (t : PoolTrade) where
   judge-good form kept = sym (nothing-wrong pool t form (record_pass t) 19 refl (record_pass t) refl kept (length (value_of t 19)) refl (told-short t form kept))
 
   pub judge-zero : judge_of t ≡ 0 → (in_form t ≡ true) × ((record_pass t).number ≡ 0)
-  judge-zero z = let (form, kept) = Any.judge-zero pool t z in (form, (then-zero (record_pass t) _ kept).0)
+  judge-zero z = let (form, kept) = AnyType.judge-zero pool t z in (form, (then-zero (record_pass t) _ kept).0)

@@ -3,10 +3,10 @@
 --   14 to 17  the rules of the kinds
 --   20  the narrative is over 35 characters, counted from `DTCY`
 use Rattle.std.specs.Prelude.{ℕ}
-use Rattle.format.specs.Writing as Any
+use Rattle.format.specs.Writing as AnyType
 use Rattle.pool_trade.specs.declared.PoolTrade.{PoolTrade}
 use Rattle.pool_values.specs.Pool.{pool}
 
 -- the first of them, or 0
 abbrev pub judge_of : PoolTrade → ℕ
-judge_of t = Any.judge_of pool t
+judge_of t = AnyType.judge_of pool t

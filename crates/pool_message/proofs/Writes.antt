@@ -15,7 +15,7 @@ use Rattle.format.proofs.Tests.{every}
 use Rattle.fill.specs.Filling.{lent}
 use Rattle.writer.specs.Parts.{message_parts, parts_for}
 use Rattle.writer.proofs.Messages.{optional_in, optional-are, parts_are}
-use Rattle.writer.proofs.Writes as Any
+use Rattle.writer.proofs.Writes as AnyType
 use Rattle.writer.proofs.Writes.{Answer}
 use Rattle.pool_trade.specs.declared.PoolTrade.{PoolTrade}
 use Rattle.pool_table.specs.Table.{header, lines}
@@ -40,4 +40,4 @@ writing-is t buf a = (rw (a.is_number, a.is-length), a.is-over)
 
 pub judged : (t : PoolTrade) (buf : List ℕ) (n : ℕ) → n ≡ judge_of pool t → (n ≡ 0 → ⊥)
     → (record { number = n; length = 0 } ≡ writing_of t (length buf)) × (buf ≡ written_over pool t buf)
-judged t buf n e h = writing-is t buf (Any.judged pool t buf n e h)
+judged t buf n e h = writing-is t buf (AnyType.judged pool t buf n e h)

@@ -14,7 +14,7 @@ use Rattle.format.specs.Kept.{kept_of}
 use Rattle.format.specs.Outline.{numbers, begun_at, slot_for, starts_kept, ends_kept}
 use Rattle.format.proofs.Tests.{every}
 use Rattle.format.proofs.Laws.{every_slot}
-use Rattle.format.proofs.Outline as Any
+use Rattle.format.proofs.Outline as AnyType
 use Rattle.pool_trade.specs.Records.{narrative_slot}
 use Rattle.pool_table.specs.Table.{header, slots, slot_of}
 use Rattle.pool_table.specs.Tree.{general, security, details, tree}
@@ -26,7 +26,7 @@ use Rattle.pool_field.proofs.Values.{fields}
 use Rattle.pool_outline.specs.Outline.{sender_line, outline_of}
 
 -- what is asked of a message type, by computation
-pub outlined : Any.Outlined pool sender_line
+pub outlined : AnyType.Outlined pool sender_line
 unfolding bytes good_slot every every_slot field_slots own_slots member_slots slots_of header slots slot_of general security details tree
 outlined = record { placed = refl; is-line = omega arith; password-bare = refl; line-bare = refl; password-whole = refl; line-whole = refl }
 
@@ -52,10 +52,10 @@ module _ (m : List ℕ) (b : Body) (is : b ≡ kept_of pool m) (starts ends : Li
       → record { number = b.verdict.number; line = b.verdict.line; starts = starts; ends = ends } ≡ outline_of m
   unfolding outline_of read_of
   handed s e =
-      let h = Any.handed pool sender_line layout laws fields outlined m b is in
+      let h = AnyType.handed pool sender_line layout laws fields outlined m b is in
       rw (
         h.number,
         h.line,
-        s ∙ starts-are b.starts b.ends ∙ Any.starts-handed pool sender_line m b h,
-        e ∙ ends-are b.ends ∙ Any.ends-handed pool sender_line m b h,
+        s ∙ starts-are b.starts b.ends ∙ AnyType.starts-handed pool sender_line m b h,
+        e ∙ ends-are b.ends ∙ AnyType.ends-handed pool sender_line m b h,
       )

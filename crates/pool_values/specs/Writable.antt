@@ -5,7 +5,7 @@ use Rattle.amount.specs.Amounts.{in_form as amount_form}
 use Rattle.calendar.specs.Dates.{is_date, is_moment}
 use Rattle.reason.specs.Reason.{reason_form}
 use Rattle.typed.specs.Payments.{payment_form}
-use Rattle.format.specs.Writable as Any
+use Rattle.format.specs.Writable as AnyType
 use Rattle.format.specs.Writable.{hold}
 use Rattle.pool_trade.specs.Records.{password_slot, sender_slot}
 use Rattle.pool_trade.specs.declared.Delivery.{Delivery}
@@ -23,7 +23,7 @@ delivery_form (Delivery.On date) = is_date date.0
 
 -- a text of the record is in form, and is a value of its slot, or absent
 abbrev pub fitted : ℕ → Text → Bool
-fitted slot x = Any.fitted tree slot_of slot x
+fitted slot x = AnyType.fitted tree slot_of slot x
 
 unfoldable pub tests : PoolTrade → List Bool
 tests t =

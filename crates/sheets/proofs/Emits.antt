@@ -1,7 +1,7 @@
 -- A table filled in is a sheet of the table, and it has the values that it was filled with.
 -- Assumes nothing.
 use Prim.Native.Nat.{ℕ}
-use mathlib.Core.Path.{◌≡◌, refl, sym, ap, ◌∙◌}
+use mathlib.Core.Path.{◌≡◌, refl, sym, ap, subst, ◌∙◌}
 use mathlib.Core.Bool.{Bool, true, false, ◌&&◌, ◌||◌, not, cond, true≢false}
 use mathlib.Core.List.{List, [], ◌∷◌, ◌++◌, append_assoc}
 use lib.Dec.{eqb}
@@ -205,7 +205,10 @@ module _ (value : ℕ → List ℕ) where
       let fields = filled_fields value m.inside c in
       let before = come (m.slot ∷ slots) fields in
       let q = come-more (filled_members value o c ms) before m.slot (come-more fields (m.slot ∷ slots) m.slot (has-front m.slot slots)) in
-      rw (v, come-append (m.slot ∷ slots) fields (filled_members value o c ms), q) (none-lacks o c ms before (and_right (some (value m.slot)) _ h))
+      let e : come slots (filled_members value o c (m ∷ ms)) ≡ come before (filled_members value o c ms) =
+      rw (v, come-append (m.slot ∷ slots) fields (filled_members value o c ms))
+      in
+      subst (λ (s : List ℕ). lacking s (m ∷ ms) ≡ false) (sym e) (rw q (none-lacks o c ms before (and_right (some (value m.slot)) _ h)))
 
   -- the first line of a table filled in fits none that the table avoids
   clear-members : (a : Fit) (o c : List ℕ) (ms : List Member) (rest : List Entry) → fits_line a o ≡ false → fits_line a (foremost rest) ≡ false

@@ -5,7 +5,7 @@ use Rattle.amount.specs.Amounts.{in_form as amount_form}
 use Rattle.calendar.specs.Dates.{is_date, is_moment}
 use Rattle.reason.specs.Reason.{reason_form}
 use Rattle.typed.specs.Prep.{prep_form}
-use Rattle.format.specs.Writable as Any
+use Rattle.format.specs.Writable as AnyType
 use Rattle.format.specs.Writable.{hold}
 use Rattle.trade.specs.Records.{password_slot, sender_slot}
 use Rattle.trade.specs.declared.Period.{Period}
@@ -23,7 +23,7 @@ period_form (Period.Days n) = leb n 9
 
 -- a text of the record is in form, and is a value of its slot, or absent
 abbrev pub fitted : ℕ → Text → Bool
-fitted slot x = Any.fitted tree slot_of slot x
+fitted slot x = AnyType.fitted tree slot_of slot x
 
 unfoldable pub tests : Trade → List Bool
 tests t =

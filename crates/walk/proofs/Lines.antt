@@ -44,12 +44,12 @@ module _ (slot_of : ℕ → Slot) (t : Taken) where
       → starts_of slot_of m starts (ts ++ t ∷ []) ≡ set (starts_of slot_of m starts ts) t.slot (end_of m t.line - length t.value + length (slot_of t.slot).fixed)
   unfolding starts_of
   starts_more m starts [] = refl
-  starts_more m starts (u ∷ ts) = starts_more m _ ts
+  starts_more m starts (u ∷ ts) = starts_more m (set starts u.slot (end_of m u.line - length u.value + length (slot_of u.slot).fixed)) ts
 
   ends_more : (m ends : List ℕ) (ts : List Taken) → ends_of m ends (ts ++ t ∷ []) ≡ set (ends_of m ends ts) t.slot (end_of m t.line)
   unfolding ends_of
   ends_more m ends [] = refl
-  ends_more m ends (u ∷ ts) = ends_more m _ ts
+  ends_more m ends (u ∷ ts) = ends_more m (set ends u.slot (end_of m u.line)) ts
 
 -- ---- what is known at a line
 

@@ -1,0 +1,8 @@
+-- `answer_rules::refused` meets its contract. Assumes nothing.
+use mathlib.Core.Path.{refl}
+use Rattle.lines.specs.Verdicts.{refused}
+use Rattle.answer_rules.proofs.refused.Goals as goal
+
+pub returns : goal.returns
+unfolding refused
+returns c = refl

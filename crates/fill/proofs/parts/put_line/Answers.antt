@@ -1,0 +1,12 @@
+-- `fill::parts::put_line` meets its contract. Assumes nothing.
+use mathlib.Core.List.{[], ◌∷◌}
+use Rattle.text.specs.Bytes.{bytes}
+use Rattle.fill.proofs.Runs.{one, then}
+use Rattle.fill.proofs.parts.put_line.Goals as goal
+
+pub returns : goal.returns
+unfolding bytes
+returns c =
+    then _ _ (_ ∷ []) _ (one _ _ _ c.put-fixed.ensures)
+    (then _ _ (_ ∷ []) _ (one _ _ _ c.put-from.ensures)
+    (then _ _ (_ ∷ []) (_ ∷ []) (one _ _ _ c.put-behind.ensures) (one _ _ _ c.put.ensures)))

@@ -1,0 +1,15 @@
+-- `gateway::mt515_read` meets its contract: the answer of `mt515::read`, handed out. Assumes nothing.
+use native.Mathlib.Omega.{arith}
+use mathlib.Core.Path.{ap, ◌∙◌}
+use Rattle.mt515.specs.declared.Reading.{Reading}
+use Rattle.packed.specs.Packed.{packed_of}
+use Rattle.gateway.proofs.Handing.{read_byte}
+use Rattle.gateway.proofs.mt515_read.Goals as goal
+
+pub overflow_cast-result : goal.overflow_cast-result
+overflow_cast-result c = let h = read_byte _ _ c.read-reading.ensures in omega (arith, h)
+
+pub returns : goal.returns
+returns c =
+    let e = c.read-reading.ensures in
+    (ap (λ (r : Reading). r.number) e, c.pack.ensures ∙ ap (λ (r : Reading). packed_of r.trade) e, ap (λ (r : Reading). r.line) e)

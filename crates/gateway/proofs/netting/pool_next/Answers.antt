@@ -1,0 +1,19 @@
+-- `gateway::netting::pool_next` meets its contract: the answer of `pool_batch::next`, handed out. Assumes nothing.
+use native.Mathlib.Omega.{arith}
+use mathlib.Core.Path.{ap, ◌∙◌}
+use Rattle.pool_batch.specs.declared.Answer.{Answer}
+use Rattle.gateway.specs.Numbers.{turn_number}
+use Rattle.gateway.proofs.PoolHanding.{next-byte}
+use Rattle.gateway.proofs.netting.pool_next.Goals as goal
+
+pub overflow_cast-number : goal.overflow_cast-number
+overflow_cast-number c = let h = next-byte _ _ _ c.next-answer.ensures in omega (arith, h)
+
+pub returns : goal.returns
+returns c =
+    let e = c.next-answer.ensures in (
+      c.turn_number.ensures ∙ ap (λ (a : Answer). turn_number a.turn) e,
+      ap (λ (a : Answer). a.reading.line) e,
+      ap (λ (a : Answer). a.position) e,
+      ap (λ (a : Answer). a.reading.number) e,
+    )

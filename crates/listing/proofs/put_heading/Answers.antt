@@ -1,0 +1,8 @@
+-- `listing::put_heading` meets its contract. Assumes nothing.
+use Rattle.text.specs.Bytes.{bytes}
+use Rattle.listing.specs.Rows.{spaced, heading}
+use Rattle.listing.proofs.put_heading.Goals as goal
+
+pub returns : goal.returns
+unfolding bytes spaced heading
+returns c = c.put.ensures

@@ -1,0 +1,22 @@
+-- `pool::read_front` meets its contract: what a glance takes is judged, and all else is cut and goes by the passes. Assumes nothing.
+use mathlib.Core.Path.{sym}
+use lib.Seq.{length-take-le}
+use Rattle.format.proofs.Taken.{glanced-within, glanced-front, front-within, front-passes}
+use Rattle.pool_values.specs.Pool.{pool}
+use Rattle.pool.specs.Reading.{judged, read_of}
+use Rattle.pool.proofs.Chain.{readable, fronted}
+use Rattle.pool.proofs.read_front.Goals as goal
+
+pub slice_bounds-judge-end : goal.slice_bounds-judge-end
+slice_bounds-judge-end c = sym (length-take-le _ _ (glanced-within pool readable _ _ _ _ _ c.in-Is.is c.glance-width.ensures))
+
+pub returns-in-Is : goal.returns-in-Is
+unfolding judged
+returns-in-Is c = fronted _ (glanced-front pool readable _ _ _ _ _ c.in-Is.is c.glance-width.ensures) c.judge.ensures
+
+pub slice_bounds-piece-end : goal.slice_bounds-piece-end
+slice_bounds-piece-end c = sym (length-take-le _ _ (front-within _ _ c.piece_end-end.ensures))
+
+pub returns : goal.returns
+unfolding read_of
+returns c = fronted _ (front-passes _ _ c.piece_end-end.ensures pool) c.read_taken.ensures

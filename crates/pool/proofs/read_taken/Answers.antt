@@ -1,0 +1,15 @@
+-- `pool::read_taken` meets its contract: what is wrong up to the values decides, and else the kinds. Assumes nothing.
+use mathlib.Core.Path.{ap, ◌∙◌}
+use Rattle.format.proofs.Chain.{refused, judged-is}
+use Rattle.pool_values.specs.Pool.{pool}
+use Rattle.pool.specs.Reading.{told, judged, read_of}
+use Rattle.pool.proofs.Chain.{readable}
+use Rattle.pool.proofs.read_taken.Goals as goal
+
+pub returns-then-verdict-ne0 : goal.returns-then-verdict-ne0
+unfolding read_of
+returns-then-verdict-ne0 c = c.refuse.ensures ∙ ap told (refused pool readable _ _ c.requires c.if-verdict-ne0.true)
+
+pub returns : goal.returns
+unfolding judged read_of
+returns c = c.judge.ensures ∙ ap told (judged-is pool readable _ _ c.requires c.if-verdict-ne0.false)

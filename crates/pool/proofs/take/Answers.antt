@@ -1,0 +1,12 @@
+-- `pool::take` meets its contract: what a glance takes whole is what the passes take, and all else goes by the passes. Assumes nothing.
+use Rattle.lines.specs.Verdicts.{pass, refused}
+use Rattle.format.proofs.Taken.{glanced-body}
+use Rattle.pool_values.specs.Pool.{pool}
+use Rattle.pool.proofs.Chain.{readable}
+use Rattle.pool.proofs.take.Goals as goal
+
+pub returns-then-n-message : goal.returns-then-n-message
+unfolding pass refused
+returns-then-n-message c =
+    let none = c.requires in
+    glanced-body pool readable _ _ _ _ _ c.in-Is.is (rw (none.0, none.1) at c.glance-width.ensures) c.if-n-message.true

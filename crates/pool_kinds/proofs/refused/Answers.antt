@@ -1,0 +1,8 @@
+-- `pool_kinds::refused` meets its contract. Assumes nothing.
+use mathlib.Core.Path.{refl}
+use Rattle.lines.specs.Verdicts.{refused}
+use Rattle.pool_kinds.proofs.refused.Goals as goal
+
+pub returns : goal.returns
+unfolding refused
+returns c = refl

@@ -1,0 +1,64 @@
+-- `pool_message::write` meets its contract: the message is composed in 752 bytes, which have room for it. Assumes nothing.
+use mathlib.Core.Path.{◌≡◌, sym, ap, ◌∙◌}
+use lib.ListN.{length, take}
+use Rattle.fill.proofs.Runs.{measured, in-front}
+use Rattle.format.specs.Writing.{message_of, judge_of}
+use Rattle.writer.proofs.Writes.{fits_in, no_room, written}
+use Rattle.pool_values.specs.Pool.{pool}
+use Rattle.pool_message.proofs.Lengths.{message-most}
+use Rattle.pool_message.proofs.Writes.{writing-is, judged}
+use Rattle.pool_message.proofs.write.Goals as goal
+
+pub returns-then-number-ne0 : goal.returns-then-number-ne0
+returns-then-number-ne0 c = judged c.args.trade c.args.buf.now _ c.judge-number.ensures c.if-number-ne0.true
+
+pub compose-length-requires : goal.compose-length-requires
+compose-length-requires c =
+    let good : judge_of pool c.args.trade ≡ 0 =
+    sym c.judge-number.ensures ∙ c.if-number-ne0.false
+    in
+    message-most _ good
+
+pub returns-then-buf-length : goal.returns-then-buf-length
+returns-then-buf-length c =
+    let good : judge_of pool c.args.trade ≡ 0 =
+    sym c.judge-number.ensures ∙ c.if-number-ne0.false
+    in
+    let long : c.compose-length.result ≡ length (message_of pool c.args.trade) =
+    measured _ _ c.compose-length.ensures.0 (message-most _ good)
+    in
+    writing-is _ _ (no_room pool _ _ good _ long c.if-buf-length.true)
+
+pub slice_bounds-message-end : goal.slice_bounds-message-end
+slice_bounds-message-end c =
+    let good : judge_of pool c.args.trade ≡ 0 =
+    sym c.judge-number.ensures ∙ c.if-number-ne0.false
+    in
+    fits_in _ _ c.compose-length.ensures (message-most _ good)
+
+pub slice_bounds-put-end : goal.slice_bounds-put-end
+slice_bounds-put-end c =
+    let good : judge_of pool c.args.trade ≡ 0 =
+    sym c.judge-number.ensures ∙ c.if-number-ne0.false
+    in
+    let long : c.compose-length.result ≡ length (message_of pool c.args.trade) =
+    measured _ _ c.compose-length.ensures.0 (message-most _ good)
+    in
+    let front : take c.compose-length.result c.compose-length.new.buf ≡ message_of pool c.args.trade =
+    in-front _ _ c.compose-length.ensures (message-most _ good)
+    in
+    long ∙ sym (ap length front)
+
+pub returns : goal.returns
+returns c =
+    let good : judge_of pool c.args.trade ≡ 0 =
+    sym c.judge-number.ensures ∙ c.if-number-ne0.false
+    in
+    let long : c.compose-length.result ≡ length (message_of pool c.args.trade) =
+    measured _ _ c.compose-length.ensures.0 (message-most _ good)
+    in
+    let front : take c.compose-length.result c.compose-length.new.buf ≡ message_of pool c.args.trade =
+    in-front _ _ c.compose-length.ensures (message-most _ good)
+    in
+    writing-is _ _
+    (written pool _ _ good _ long c.if-buf-length.false _ (c.put.ensures.1 ∙ rw front))

@@ -1,0 +1,8 @@
+-- `pool_trade::party_at` meets its contract. Assumes nothing.
+use Rattle.pool_trade.specs.Records.{party_of}
+use borrow.Author.Rules.{rules}
+use Rattle.pool_trade.proofs.party_at.Goals as goal
+
+pub returns : goal.returns
+unfolding party_of
+returns c = rw (c.text_at.ensures, c.text_at-2.ensures)

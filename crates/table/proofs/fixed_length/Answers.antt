@@ -1,0 +1,21 @@
+-- `table::fixed_length` meets its contract: the bytes of the slots are those of specs/Table, by computation. Assumes nothing.
+use mathlib.Core.Path.{◌≡◌, refl, ap, ◌∙◌}
+use lib.ListN.{length}
+use Rattle.text.specs.Bytes.{bytes}
+use Rattle.forms.specs.Forms.{Slot}
+use Rattle.forms.specs.Slots.{reaches, line_in, text_in, words_in, form_of, form_in, slot_at}
+use Rattle.table.specs.Table.{slots, lines}
+use Rattle.table.specs.declared.TheConstants.{SLOTS}
+use Rattle.forms.proofs.Tables.{places}
+use Rattle.table.proofs.Tables.{slots-are}
+use Rattle.table.proofs.fixed_length.Goals as goal
+
+right : places SLOTS 0 42 ≡ lines
+unfolding bytes reaches line_in text_in words_in form_of form_in slot_at slots
+right = refl
+
+long : length SLOTS ≡ 840
+long = refl
+
+pub returns : goal.returns
+returns c = ap length (c.fixed_text.ensures ∙ ap (λ (s : Slot). s.fixed) (slots-are SLOTS right long _))

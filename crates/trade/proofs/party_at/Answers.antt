@@ -1,0 +1,7 @@
+-- `trade::party_at` meets its contract. Assumes nothing.
+use Rattle.trade.specs.Records.{party_of}
+use Rattle.trade.proofs.party_at.Goals as goal
+
+pub returns : goal.returns
+unfolding party_of
+returns c = rw (c.text_at.ensures, c.text_at-2.ensures, c.text_at-3.ensures)

@@ -1,0 +1,8 @@
+-- `values::narrative_length` meets its contract. Assumes nothing.
+use Rattle.fill.proofs.Runs.{measured}
+use Rattle.values.specs.Values.{values, value_of}
+use Rattle.values.proofs.narrative_length.Goals as goal
+
+pub returns : goal.returns
+unfolding value_of values
+returns c = let e = c.put_narrative.ensures in measured _ _ e.0 e.2
