@@ -7,6 +7,7 @@ set -eu
 root=$(cd "$(dirname "$0")/.." && pwd -P)
 program=$root/target/gateway
 
+mkdir -p "$root/target"
 library=$("$root/bin/archive")
 "$root/bin/cc-x86" -o "$program" -std=c11 -Wall -Wextra -O2 -I"$root/include" "$root/examples/gateway.c" "$library"
 "$root/bin/run-x86" "$program" "${1:-$root/examples/day.batch}" "${2:-$root/target/day.plain}"

@@ -6,7 +6,7 @@
  * owes what C always asks, and no more: each pointer is to as many bytes as its length says, what an entry writes to overlaps
  * nothing else that it is passed, and no pointer is null, not even one to 0 bytes. Every answer is written in every case.
  *
- * The archive is for x86-64: bin/archive proves and makes it, target/staticlib/libgateway.a. examples/gateway.c is a program
+ * The archive is for x86-64: bin/archive proves and makes it, and prints where it is. examples/gateway.c is a program
  * that uses it, and bin/cc-x86 compiles and links such a program on x86-64 and on Arm. */
 #ifndef MT515_H
 #define MT515_H

@@ -7,7 +7,7 @@ cd "$(dirname "$0")/.."
 work=$(mktemp -d)
 trap 'rm -rf "$work"' EXIT
 
-[ -x target/bin/answers ] || rt check answers </dev/null
+answers=$(bin/program answers)
 cc -std=c11 -Wall -Wextra -Werror -O2 tests/second/second.c tests/second/list.c -o "$work/list"
 
 heading='MSG CODE LINE STATUS MAST LIST RELA REASONS'
@@ -21,7 +21,7 @@ fail() { # NAME WHAT
 
 # both NAME: the input is in $work/in; what both programs print of it is in $work/first.
 both() {
-    bin/run-x86 target/bin/answers <"$work/in" >"$work/first" || fail "$1" "the program ends with status $?"
+    bin/run-x86 "$answers" <"$work/in" >"$work/first" || fail "$1" "the program ends with status $?"
     "$work/list" --mt509 --lister <"$work/in" >"$work/second" || fail "$1" "the second program ends with status $?"
     cmp "$work/first" "$work/second" || fail "$1" 'the two lists differ'
 }
@@ -79,7 +79,7 @@ edge 'accepted messages up to the last bytes' 65536 179 "$heading" '179 3 1 - - 
 
 # The same input by a pipe, in three parts.
 { head -c 300 "$work/in" && sleep 0.1 && tail -c +301 "$work/in" | head -c 40000 && sleep 0.1 && tail -c +40301 "$work/in"; } |
-    bin/run-x86 target/bin/answers | cmp - "$work/first" || fail 'input in parts' 'it is listed otherwise'
+    bin/run-x86 "$answers" | cmp - "$work/first" || fail 'input in parts' 'it is listed otherwise'
 edges=$((edges + 1))
 
 # The example's list stands in README.md.

@@ -71,8 +71,8 @@ MSG CODE LINE KIND MAST BUYR SELL MONEY
 END
 
 # The lister takes the MT515 among them, and gives 4 at 3 to all others.
-[ -x target/bin/lister ] || rt check lister </dev/null
-bin/run-x86 target/bin/lister <examples/pool.batch >"$work/list"
+lister=$(bin/program lister)
+bin/run-x86 "$lister" <examples/pool.batch >"$work/list"
 awk 'NR == 1 { print "MSG CODE LINE KIND MAST BUYR SELL"; next } { print $1, $1 == 14 ? "0 0 INST 0017 0017 0015" : "4 3 - - - -" }' "$work/rows" |
     diff - "$work/list"
 

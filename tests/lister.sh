@@ -6,7 +6,7 @@ cd "$(dirname "$0")/.."
 work=$(mktemp -d)
 trap 'rm -rf "$work"' EXIT
 
-[ -x target/bin/lister ] || rt check lister </dev/null
+lister=$(bin/program lister)
 cc -std=c11 -Wall -Wextra -Werror -O2 tests/second/second.c tests/second/list.c -o "$work/list"
 
 heading='MSG CODE LINE KIND MAST BUYR SELL'
@@ -16,7 +16,7 @@ edges=0
 # first line, and this first and this last line.
 edge() {
     [ "$(wc -c <"$work/in")" -eq "$2" ] || fail "$1" "the input has $(wc -c <"$work/in") bytes and not $2"
-    bin/run-x86 target/bin/lister <"$work/in" >"$work/first" || fail "$1" "the lister ends with status $?"
+    bin/run-x86 "$lister" <"$work/in" >"$work/first" || fail "$1" "the lister ends with status $?"
     "$work/list" --lister <"$work/in" >"$work/second" || fail "$1" "the second program ends with status $?"
     cmp "$work/first" "$work/second" || fail "$1" 'the two listers differ'
     [ "$(wc -l <"$work/first")" -eq $(($3 + 1)) ] || fail "$1" "there are $(wc -l <"$work/first") lines and not $(($3 + 1))"
@@ -71,6 +71,6 @@ edge 'accepted messages up to the last bytes' 65536 141 "$heading" '141 3 1 - - 
 
 # The same input by a pipe, in three parts.
 { head -c 300 "$work/in" && sleep 0.1 && tail -c +301 "$work/in" | head -c 40000 && sleep 0.1 && tail -c +40301 "$work/in"; } |
-    bin/run-x86 target/bin/lister | cmp - "$work/first" || fail 'input in parts' 'it is listed otherwise'
+    bin/run-x86 "$lister" | cmp - "$work/first" || fail 'input in parts' 'it is listed otherwise'
 
 echo "ok, $((edges + 1)) edges of the lister"

@@ -6,8 +6,8 @@ cd "$(dirname "$0")/.."
 work=$(mktemp -d)
 trap 'rm -rf "$work"' EXIT
 
-[ -x target/bin/lister ] || rt check lister </dev/null
-[ -x target/bin/answers ] || rt check answers </dev/null
+lister=$(bin/program lister)
+answers=$(bin/program answers)
 cc -std=c11 -Wall -Wextra -Werror -O2 tests/second/second.c tests/second/list.c -o "$work/list"
 
 # The first block of the sheet is the message; each later one is a change to it, with `The list says` behind it. Writes the
@@ -42,7 +42,7 @@ PYTHON
 
 for input in "$work"/*.in; do
     want=${input%.in}.want
-    bin/run-x86 target/bin/lister <"$input" | diff "$want" - && "$work/list" --lister <"$input" | diff "$want" - || {
+    bin/run-x86 "$lister" <"$input" | diff "$want" - && "$work/list" --lister <"$input" | diff "$want" - || {
         echo "the sheet < and a lister > differ on this message:"
         cat "$input"
         exit 1
@@ -84,7 +84,7 @@ PYTHON
 
 for input in "$work"/*.answer; do
     said=${input%.answer}.said
-    bin/run-x86 target/bin/answers <"$input" >"$work/first"
+    bin/run-x86 "$answers" <"$input" >"$work/first"
     "$work/list" --mt509 --lister <"$input" >"$work/second"
     cmp "$work/first" "$work/second" && sed 1d "$work/first" | cut -d' ' -f1-3 | diff "$said" - || {
         echo "the sheet < and a list of answers > differ on this message:"

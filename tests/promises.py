@@ -7,7 +7,7 @@ edit, by its name, whether the gate tries it or tests/edits. An `ensures` has an
 buffer lent to be written holds afterwards, but for the functions that are listed under "## Promises that allow two results": by
 demands' law `one-answer` two programs that keep it then do the same. That holds
 only of an equation whose left side is the whole of the one and whose right side speaks of what was given, and so neither of the
-answer nor of what a buffer holds afterwards: `r ≡ r` says nothing, and `r .0 ≡ x` not all.
+answer nor of what a buffer holds afterwards: `result ≡ result` says nothing, and `result.0 ≡ x` not all.
 
 Usage: promises.py ROOT           check the repository at ROOT
        promises.py --self-test    check this program on a made-up source
@@ -26,8 +26,8 @@ SILENT = re.compile(r'//[^\n]*|/\*.*?\*/|"(?:\\.|[^"\\])*"|\bb\'(?:\\x[0-9A-Fa-f
 FUNCTION = re.compile(r'\bpub\s+(?:extern\s+"[^"]*"\s+)?fn\s+(\w+)')
 IMPL = re.compile(r'\bimpl\s+(\w+)[^{;]*\{')
 CLAUSE = re.compile(r'\b(requires|ensures)\b|[\[({;]')
-EQUATION = re.compile(r'(r|now r|now \(\w+ \.exit\)) ≡ (.*)', re.S)
-AFTERWARDS = re.compile(r'(?<![\w.-])r(?![\w-])|\.exit\b')
+EQUATION = re.compile(r'(result|result\.now|\w+\.new) ≡ (.*)', re.S)
+AFTERWARDS = re.compile(r'(?<![\w.-])result(?![\w-])|\.(?:new|exit)\b')
 LENT = re.compile(r"(\w+)\s*:\s*&(?:'\w+\s+)?mut\b")
 ENTRY = re.compile(r'- `([\w:]+)`: *(\S.*)')
 
@@ -67,8 +67,7 @@ def clauses(code, at):
 
 def facts(clause):
     """The facts that an `ensures` joins by ×, each without the brackets around it."""
-    said = re.search(r'⌜(.*)⌝', clause, re.S)
-    text = said.group(1).strip() if said else ''
+    text = clause.strip()
     found, start, depth = [], 0, 0
     for i, c in enumerate(text + '×'):
         depth += (c == '(') - (c == ')')
@@ -83,8 +82,8 @@ def unsaid(parameters, answers, found):
     equations = [m for kind, text in found if kind == 'ensures' for m in map(EQUATION.match, facts(text)) if m]
     told = {m.group(1) for m in equations if not AFTERWARDS.search(m.group(2))}
     wanted = [name for name in LENT.findall(parameters)]
-    said = [] if not answers or told & {'r', 'now r'} else ['its answer']
-    return said + [name for name in wanted if f'now ({name} .exit)' not in told]
+    said = [] if not answers or told & {'result', 'result.now'} else ['its answer']
+    return said + [name for name in wanted if f'{name}.new' not in told]
 
 
 def functions(crate, source):
@@ -189,7 +188,7 @@ pub extern "C" fn good(
     part: &[u8], // with a requires
     at: usize,
 ) -> [u8; 4]
-    ensures whole { λ r. ⌜ r ≡ record { at = at } ⌝ }
+    ensures whole { result ≡ record { at = at } }
 {
     inner(b'}')
 }
@@ -204,32 +203,32 @@ impl Held {
 }
 
 pub fn loose(buf: &mut [u8], n: &'a mut u8) -> u8
-    ensures { λ r. ⌜ (r ≤ 4) × (now (n .exit) ≡ (1 × 2)) ⌝ }
+    ensures { (result ≤ 4) × (n.new ≡ (1 × 2)) }
 {
     4
 }
 
 pub fn same(x: u8) -> u8
-    ensures { λ r. ⌜ r ≡ r ⌝ }
+    ensures { result ≡ result }
 {
     x
 }
 
 pub fn kept(buf: &mut [u8], at: u8) -> bool
-    ensures { λ r. ⌜ (r ≡ good at) × (now (buf .exit) ≡ over (now (buf .entry)) (now (buf .exit))) ⌝ }
+    ensures { (result ≡ good at) × (buf.new ≡ over buf.old buf.new) }
 {
     true
 }
 
 pub fn partly(at: u8) -> Par
-    ensures { λ r. ⌜ r .0 ≡ at ⌝ }
+    ensures { result.0 ≡ at }
 {
     Par(at)
 }
 
 pub fn choosy<'a>(x: &'a [u8]) -> u8
-    requires { ⌜ 1 ≤ length (now x) ⌝ }
-    ensures { λ r. ⌜ r ≡ x' ⌝ }
+    requires { 1 ≤ length x.now }
+    ensures { result ≡ x' }
 {
     x[0]
 }

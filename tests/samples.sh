@@ -7,7 +7,7 @@ work=$(mktemp -d)
 trap 'rm -rf "$work"' EXIT
 samples='tests/samples/printed.txt tests/samples/mended.txt tests/samples/made.txt'
 
-[ -x target/bin/lister ] || rt check lister </dev/null
+lister=$(bin/program lister)
 cc -std=c11 -Wall -Wextra -Werror -O2 tests/second/second.c tests/second/list.c -o "$work/list"
 
 # The table without its headings and reasons; it has every message once, in the order of the files.
@@ -48,7 +48,7 @@ for file in $samples; do
     for ending in LF CRLF; do
         sed '/^# /d' "$file" >"$work/batch"
         [ $ending = LF ] || sed -i "s/\$/$cr/" "$work/batch"
-        bin/run-x86 target/bin/lister <"$work/batch" | named "$file" >"$work/got"
+        bin/run-x86 "$lister" <"$work/batch" | named "$file" >"$work/got"
         agree "$file, $ending, the lister" "$work/wanted" "$work/got"
         "$work/list" --lister <"$work/batch" | named "$file" >"$work/got"
         agree "$file, $ending, the second program's lister" "$work/wanted" "$work/got"
@@ -56,13 +56,13 @@ for file in $samples; do
 done
 
 # Each message by itself, and not cut from a batch; price and par, which the table does not have, as the second program has them.
-[ -x target/bin/vectors ] || rt check vectors </dev/null
+vectors=$(bin/program vectors)
 cat $samples | "$work/list" >"$work/second"
 cut -d ' ' -f 1-7 "$work/second" >"$work/got"
 agree 'the second program, message by message' "$work/table" "$work/got"
 cat $samples | "$work/list" --twice
 for file in $samples; do
-    bin/run-x86 target/bin/vectors <"$file"
+    bin/run-x86 "$vectors" <"$file"
 done | diff "$work/second" - || {
     echo 'message by message: the second program <, the reader >'
     exit 1
