@@ -9,12 +9,13 @@ use Rattle.pieces.specs.Pieces.{pieces}
 use Rattle.pieces.specs.Calls.{Takes, Gives}
 use Rattle.pieces.proofs.Cutting as Pieces
 use Rattle.format.specs.Format.{Format}
-use Rattle.format.specs.Reading.{Read, read_of}
+use Rattle.format.specs.Reading.{read_of}
+use Rattle.format.specs.declared.Reading.{Reading}
 use Rattle.format.specs.Writing.{message_of}
 use Rattle.format.specs.Demands.{accepts, AllWritable, written, Demands}
 use Rattle.format.specs.Batch.{ReadsWritten}
 
-module _ (F : Format) (D : Demands F) (A : Type 0) (told : Read F.Held → A) where
+module _ (F : Format) (D : Demands F) (A : Type 0) (told : Reading F.Held → A) where
   all_back : (rs : List F.Held) → AllWritable F rs → map (λ m. told (read_of F m)) (map (message_of F) rs) ≡ map (λ r. told (accepts F r)) rs
   all_back [] h = refl
   all_back (r ∷ rs) h = rw (D.reads-back r h.0, all_back rs h.1)

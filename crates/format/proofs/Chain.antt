@@ -17,7 +17,8 @@ use Rattle.walk.specs.declared.Body.{Body}
 use Rattle.reader.proofs.Laws.{pass_of, take-verdict, take-values}
 use Rattle.measure.specs.Measure.{clean_slot}
 use Rattle.format.specs.Format.{Format}
-use Rattle.format.specs.Reading.{Read, reading, body_of, value_on, rules_of, read_of}
+use Rattle.format.specs.Reading.{reading, body_of, value_on, rules_of, read_of}
+use Rattle.format.specs.declared.Reading.{Reading}
 use Rattle.format.specs.Kept.{taken}
 use Rattle.format.proofs.Laws.{every_slot, Layout, Placed, Rests}
 use Rattle.format.proofs.Rows.{rows-body, rows-verdict}
@@ -33,11 +34,11 @@ pub record Readable (F : Format) : Type 0 where
 
 module _ (F : Format) where
   -- a refusal with the blank record
-  abbrev pub blankly : Verdict → Read F.Held
+  abbrev pub blankly : Verdict → Reading F.Held
   blankly v = record { number = v.number; line = v.line; held = F.blank }
 
   -- the record of values, judged by the rules
-  abbrev pub judged : (ℕ → List ℕ) → Read F.Held
+  abbrev pub judged : (ℕ → List ℕ) → Reading F.Held
   judged value = reading F.blank (rules_of F value) (F.record_of value)
 
   refused-is : (v : Verdict) (r : F.Held) → (v.number ≡ 0 → ⊥) → blankly v ≡ reading F.blank v r
@@ -58,7 +59,7 @@ module _ (F : Format) where
     rules-accepted r is h = accepted-is v r h ∙ rw (is, e)
 
   -- the same in the type's own words, of a record and its rules as a program has them
-  module _ {A : Type 0} (told : Read F.Held → A) (value : ℕ → List ℕ) (r : F.Held) (is : r ≡ F.record_of value) (v : Verdict) (e : v ≡ F.read_rules value r) where
+  module _ {A : Type 0} (told : Reading F.Held → A) (value : ℕ → List ℕ) (r : F.Held) (is : r ≡ F.record_of value) (v : Verdict) (e : v ≡ F.read_rules value r) where
     rules-are : v ≡ rules_of F value
     unfolding rules_of
     rules-are = e ∙ rw is

@@ -13,7 +13,8 @@ use Rattle.text.specs.Copy.{over}
 use Rattle.lines.specs.Verdicts.{refused, pass, then, when}
 use Rattle.pieces.proofs.Pieces.{Message, Messages, message-joined, no-beginning, pieces_of, same-batch}
 use Rattle.format.specs.Format.{Format}
-use Rattle.format.specs.Reading.{Read, reading, verdict_of, read_of}
+use Rattle.format.specs.Reading.{reading, verdict_of, read_of}
+use Rattle.format.specs.declared.Reading.{Reading}
 use Rattle.format.specs.Lawful.{said_in, Lawful}
 use Rattle.format.specs.Writing.{lines_for, message_of, judge_of, write_number, write_length, written_over, writable}
 use Rattle.format.specs.Plain.{plain_of}
@@ -77,7 +78,7 @@ module _ (F : Format) (L : Layout F) (W : Laws F) where
 
   -- a message tells its record
   one-record : (r q : F.Held) → judge_of F r ≡ 0 → judge_of F q ≡ 0 → message_of F r ≡ message_of F q → r ≡ q
-  one-record r q j k e = ap (λ (x : Read F.Held). x.held) (sym (read-written r j) ∙ ap (read_of F) e ∙ read-written q k)
+  one-record r q j k e = ap (λ (x : Reading F.Held). x.held) (sym (read-written r j) ∙ ap (read_of F) e ∙ read-written q k)
 
   message-of : (r : F.Held) → judge_of F r ≡ 0 → Message (message_of F r)
   unfolding message_of
@@ -118,7 +119,7 @@ module _ (F : Format) (L : Layout F) (W : Laws F) where
 
     held-is : held_in F m ≡ F.record_of (said_in F m law.sheet)
     held-is =
-        ap (λ (x : Read F.Held). x.held)
+        ap (λ (x : Reading F.Held). x.held)
         (record-said F L W m law.sheet law.laid (body-taken F L m law.sheet law.laid law.lines) accepted)
 
     -- the record is in form and keeps the rules
@@ -143,8 +144,8 @@ module _ (F : Format) (L : Layout F) (W : Laws F) where
   plain-plain : (m : List ℕ) → Accepted F m → plain_of F (plain_of F m) ≡ plain_of F m
   plain-plain m z =
       let e = plain-read m z in
-      let a : Accepted F (plain_of F m) = ap (λ (x : Read F.Held). x.number) e in
-      sym (plainly (plain_of F m) a) ∙ ap (λ (x : Read F.Held). message_of F x.held) e ∙ plainly m z
+      let a : Accepted F (plain_of F m) = ap (λ (x : Reading F.Held). x.number) e in
+      sym (plainly (plain_of F m) a) ∙ ap (λ (x : Reading F.Held). message_of F x.held) e ∙ plainly m z
 
   writes-number : (m buf : List ℕ) → Accepted F m → length (plain_of F m) ≤ length buf
       → (write_number F (held_in F m) (length buf) ≡ 0)
@@ -161,7 +162,7 @@ module _ (F : Format) (L : Layout F) (W : Laws F) where
       record-said F L W m w.sheet w.laid (body-taken F L m w.sheet w.laid w.lines) z ∙ rw (accepted-line F L W m z)
 
   lawful-number : (m : List ℕ) → Lawful F m → Accepted F m
-  lawful-number m w = ap (λ (x : Read F.Held). x.number) (fields m w)
+  lawful-number m w = ap (λ (x : Reading F.Held). x.number) (fields m w)
 
   -- ---- the demands
 

@@ -31,7 +31,8 @@ use Rattle.walk.proofs.Laws.{kept_at}
 use Rattle.reader.specs.Take.{take_of}
 use Rattle.reader.proofs.Laws.{nothing as no-stretch, pass_of, take-values}
 use Rattle.format.specs.Format.{Format}
-use Rattle.format.specs.Reading.{Read, reading, body_of, value_on, rules_of, verdict_of, read_of}
+use Rattle.format.specs.Reading.{reading, body_of, value_on, rules_of, verdict_of, read_of}
+use Rattle.format.specs.declared.Reading.{Reading}
 use Rattle.format.specs.Lawful.{said_in, Lawful}
 use Rattle.format.specs.Demands.{Accepted, held_in}
 use Rattle.format.proofs.Tests.{every, every-at, number-form, is_amount_form, tidied, tidied-same, tidied-none, amount-some}
@@ -141,7 +142,7 @@ module _ (F : Format) (L : Layout F) (W : Laws F) (m : List ℕ) (z : Accepted F
   -- its record has that, tidied
   held-value : (s : ℕ) → has (every_slot F) s ≡ true → F.value_of (held_in F m) s ≡ tidied (F.slot_of s).form (said s)
   held-value s i =
-      ap (λ (x : Read F.Held). F.value_of x.held s) ((demands F L W).reads-fields m law)
+      ap (λ (x : Reading F.Held). F.value_of x.held s) ((demands F L W).reads-fields m law)
       ∙ (W.values-back said (lawful-held F L W m law) law.rules).1 s i
 
   -- an amount's shortest text is its tidied value

@@ -27,7 +27,8 @@ use Rattle.measure.specs.declared.Width.{Width}
 use Rattle.measure.specs.declared.Width.TheVariants.{Is}
 use Rattle.glance.specs.Glance.{Says}
 use Rattle.format.specs.Format.{Format}
-use Rattle.format.specs.Reading.{Read, reading, body_of, value_on, rules_of, verdict_of, read_of}
+use Rattle.format.specs.Reading.{reading, body_of, value_on, rules_of, verdict_of, read_of}
+use Rattle.format.specs.declared.Reading.{Reading}
 use Rattle.format.specs.Kept.{taken, kept_of}
 use Rattle.format.specs.Glancing.{GlancedIn}
 use Rattle.format.specs.Demands.{Accepted}
@@ -40,7 +41,7 @@ abbrev pub Told : Format → List ℕ → List ℕ → List ℕ → Width → Ty
 Told F s starts ends w = Says (table_of F.tree) F.slot_of F.header s (replicate {A = ℕ} slot_count 0) (replicate {A = ℕ} slot_count 0) starts ends w
 
 -- so the piece at the front of a text is read, and so many bytes it has
-abbrev pub Front : (F : Format) → List ℕ → Read F.Held → ℕ → Type 0
+abbrev pub Front : (F : Format) → List ℕ → Reading F.Held → ℕ → Type 0
 Front F s r n = (r ≡ read_of F (piece_of s)) × (n ≡ length (piece_of s))
 
 -- ---- by a glance

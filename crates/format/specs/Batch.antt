@@ -4,10 +4,11 @@ use Rattle.std.specs.Prelude.{ℕ, List, map}
 use Rattle.pieces.specs.Calls.{Gives, Takes}
 use Rattle.pieces.specs.declared.Turn.{Turn}
 use Rattle.format.specs.Format.{Format}
-use Rattle.format.specs.Reading.{Read, read_of}
+use Rattle.format.specs.Reading.{read_of}
+use Rattle.format.specs.declared.Reading.{Reading}
 use Rattle.format.specs.Demands.{accepts, AllWritable, written}
 
-abbrev pub ReadsWritten : (F : Format) (A : Type 0) → (Read F.Held → A) → Type 0
+abbrev pub ReadsWritten : (F : Format) (A : Type 0) → (Reading F.Held → A) → Type 0
 ReadsWritten F A told =
     (rs : List F.Held) → AllWritable F rs
     → (turn : ℕ → Turn) (reading : ℕ → A) (next : ℕ → ℕ) → Takes (λ m. told (read_of F m)) (written F rs) turn reading next

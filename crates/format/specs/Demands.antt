@@ -5,7 +5,8 @@ use mathlib.Core.List.{List, [], ◌∷◌, ◌++◌, map, flatten}
 use Rattle.text.specs.Copy.{over}
 use Rattle.pieces.specs.Pieces.{pieces}
 use Rattle.format.specs.Format.{Format}
-use Rattle.format.specs.Reading.{Read, read_of}
+use Rattle.format.specs.Reading.{read_of}
+use Rattle.format.specs.declared.Reading.{Reading}
 use Rattle.format.specs.Lawful.{said_in, Lawful}
 use Rattle.format.specs.Writing.{message_of, write_number, write_length, written_over, writable}
 use Rattle.format.specs.Plain.{plain_of}
@@ -18,7 +19,7 @@ module _ (F : Format) where
   held_in m = (read_of F m).held
 
   -- what a read answers that accepts
-  abbrev pub accepts : F.Held → Read F.Held
+  abbrev pub accepts : F.Held → Reading F.Held
   accepts r = record { number = 0; line = 0; held = r }
 
   abbrev pub AllWritable : List F.Held → Type 0

@@ -10,14 +10,10 @@ use Rattle.sheets.specs.Taking.{taken_by}
 use Rattle.walk.specs.Walk.{body_pass, taken_in, value_from}
 use Rattle.reader.specs.Header.{head_pass, head_value}
 use Rattle.format.specs.Format.{Format}
+use Rattle.format.specs.declared.Reading.{Reading}
 
--- what a read answers: 0 and the record, or a number and a line with the blank record beside them
-pub record Read (Held : Type 0) : Type 0 where
-  pub number : ℕ
-  pub line : ℕ
-  pub held : Held
-
-unfoldable pub reading : {Held : Type 0} → Held → Verdict → Held → Read Held
+-- what reading answers: the record of what has 0, and the blank record beside a refusal
+unfoldable pub reading : {Held : Type 0} → Held → Verdict → Held → Reading Held
 reading blank v r = record { number = v.number; line = v.line; held = cond (eqb v.number 0) r blank }
 
 module _ (F : Format) where
@@ -44,5 +40,5 @@ module _ (F : Format) where
       (then (body_pass F.slot_of (body_of m))
       (rules_of value))))
 
-  unfoldable pub read_of : List ℕ → Read F.Held
+  unfoldable pub read_of : List ℕ → Reading F.Held
   read_of m = reading F.blank (verdict_of m) (F.record_of (value_on m (taken_in (body_of m))))
