@@ -1,3 +1,4 @@
+pub mod Asked
 pub mod Widest
 pub mod Lengths
 pub mod Laws

@@ -67,7 +67,7 @@ fn header_form(answer: Answer) -> bool
     password & receiver
 }
 
-pub(crate) fn in_form(answer: Answer) -> bool
+pub fn in_form(answer: Answer) -> bool
     ensures { result ≡ in_form answer }
 {
     let general = general_form(answer);

@@ -3,11 +3,10 @@ use Rattle.std.specs.Prelude.{ℕ, zero, suc, ◌-◌, ◌≡◌, List, [], ◌�
 use Prim.Native.String.{String}
 use Rattle.lines.specs.Verdicts.{refused}
 use Rattle.format.specs.Changes.{ended, without, with, behind, exchanged}
-use Rattle.format.specs.Reading.{verdict_of}
+use Rattle.format.specs.Reading.{verdict_of, read_of}
 use Rattle.format.specs.Plain.{plain_of}
 use Rattle.answer.specs.Cases.{r as answer_of_r}
 use Rattle.answer_values.specs.Mt509.{mt509}
-use Rattle.mt509.specs.Reading.{read_of}
 
 unfoldable pub r : List String
 r =
@@ -130,6 +129,6 @@ cases =
 -- plain form the MAST block stands before the RELA block
 pub record Answered : Type 0 where
   pub verdicts : map (λ row. verdict_of mt509 (ended "\n" row.0)) cases ≡ map (λ row. refused row.1 row.2) cases
-  pub endings : map (λ ending. read_of (ended ending r)) ("\n" ∷ "\r\n" ∷ []) ≡ replicate 2 (record { number = 0; line = 0; answer = answer_of_r })
+  pub endings : map (λ ending. read_of mt509 (ended ending r)) ("\n" ∷ "\r\n" ∷ []) ≡ replicate 2 (record { number = 0; line = 0; held = answer_of_r })
   pub lengths : length (ended "\r\n" r) ≡ 396
   pub plain : plain_of mt509 (ended "\n" r) ≡ ended "\r\n" (moved 9 11 14 r)

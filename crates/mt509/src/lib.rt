@@ -1,163 +1,103 @@
-// The MT509, an answer that comes back: a message is read into its record, or refused with a number and a line.
+// The MT509 as a message type: its bytes, the record of an answer, and its rules. What is done with a message of any type is done with one
+// of this.
 //
-// What is right stands in specs/Reading, over format's specs/Reading and answer_values' specs/Mt509.
+// What is right stands in answer_values' specs/Mt509.
 #![tactic(auto)]
 
-ghost use Rattle.std.specs.Prelude.{◌≡◌, replicate};
-ghost use Rattle.answer.specs.Records.{blank_answer};
-ghost use Rattle.stretches.specs.Stretches.{slot_count, stretch_of};
-ghost use Rattle.sheets.specs.Trees.{table_of};
-ghost use Rattle.reader.specs.Take.{take_of};
-ghost use Rattle.answer_table.specs.Table.{header, slot_of};
-ghost use Rattle.answer_table.specs.Tree.{tree};
-ghost use Rattle.format.specs.Kept.{kept_of};
+mod writing;
+
+ghost use Rattle.std.specs.Prelude.{[]};
+ghost use Rattle.message_type.specs.Shape.{shape_of};
 ghost use Rattle.answer_values.specs.Mt509.{mt509};
-ghost use Rattle.mt509.specs.Reading.{judged, read_of, front_of};
+ghost use Rattle.answer_demands.proofs.Laws.{laws as answer-laws};
+ghost use Rattle.answer_demands.proofs.Asked.{is-readable, fields-are, amounts-are, is-outlined, is_short};
 
 use answer::Answer;
 use lines::Verdict;
-use measure::Width;
-use walk::Body;
+use message_type::MessageType;
 
-// What the desk gets back of a message: 0 and the record, or a number and a line with the blank record beside them.
-#[derive(Clone, Copy)]
-pub struct Reading {
-    pub number: u64,
-    pub line: usize,
-    pub answer: Answer,
-}
+pub struct Mt509;
 
-// What stands at the front of a text: how its piece is read, and how many bytes the piece has.
-#[derive(Clone, Copy)]
-pub struct Front {
-    pub reading: Reading,
-    pub length: usize,
-}
+impl MessageType for Mt509 {
+    type Record = Answer;
 
-fn refuse(verdict: Verdict) -> Reading
-    ensures { result ≡ record { number = verdict.number; line = verdict.line; answer = blank_answer } }
-{
-    Reading {
-        number: verdict.number,
-        line: verdict.line,
-        answer: answer::blank(),
-    }
-}
+    ghost shape = { shape_of mt509 };
 
-// The record of a message with nothing wrong up to its values, judged by the rules of its status.
-fn judge<'a, 'b>(
-    message: &'a [u8],
-    starts: &'b [usize; stretches::SLOTS],
-    ends: &'b [usize; stretches::SLOTS],
-) -> Reading
-    ensures { result ≡ judged (stretch_of message.now starts.now ends.now) }
-{
-    let answer = answer::gather(message, starts, ends);
-    let rules = answer_rules::answer_pass(stretches::stretch(message, starts, ends, 2), answer);
-    if rules.number != 0 {
-        return refuse(rules);
-    }
-    Reading {
-        number: rules.number,
-        line: rules.line,
-        answer,
-    }
-}
+    ghost amounts = { [] };
 
-// Takes a message into places that are all 0: at one look where that takes all of it, and else by the passes in their order.
-fn take(
-    message: &[u8],
-    starts: &mut [usize; stretches::SLOTS],
-    ends: &mut [usize; stretches::SLOTS],
-) -> Verdict
-    requires { (starts.old ≡ replicate slot_count 0) × (ends.old ≡ replicate slot_count 0) }
-    ensures { record { verdict = result; starts = starts.new; ends = ends.new } ≡ take_of (table_of tree) slot_of header message.now }
-{
-    let width = answer_table::glance(message, starts, ends);
-    if let Width::Is(n) = width {
-        if n == message.len() {
-            return Verdict::PASS;
-        }
-    }
-    let body = answer_table::take(message);
-    let begun = body.starts;
-    let ended = body.ends;
-    *starts = begun;
-    *ends = ended;
-    body.verdict
-}
+    ghost line = { 3 };
 
-// Reads a message by what was taken of it.
-fn read_taken<'a, 'b>(
-    message: &'a [u8],
-    verdict: Verdict,
-    starts: &'b [usize; stretches::SLOTS],
-    ends: &'b [usize; stretches::SLOTS],
-) -> Reading
-    requires { record { verdict = verdict; starts = starts.now; ends = ends.now } ≡ take_of (table_of tree) slot_of header message.now }
-    ensures { result ≡ read_of message.now }
-{
-    if verdict.number != 0 {
-        return refuse(verdict);
+    fn header() -> &'static [u8] {
+        answer_table::heads()
     }
-    judge(message, starts, ends)
-}
 
-// Reads a message.
-pub fn read(message: &[u8]) -> Reading
-    ensures { result ≡ read_of message.now }
-{
-    let mut starts = [0usize; stretches::SLOTS];
-    let mut ends = [0usize; stretches::SLOTS];
-    let verdict = take(message, &mut starts, &mut ends);
-    read_taken(message, verdict, &starts, &ends)
-}
+    fn rows() -> &'static [u8] {
+        answer_table::rows()
+    }
 
-// Reads the piece at the front of a text: at one look where that takes it, and else it is cut and goes by the passes.
-pub fn read_front(text: &[u8]) -> Front
-    ensures { result ≡ front_of text.now }
-{
-    let mut starts = [0usize; stretches::SLOTS];
-    let mut ends = [0usize; stretches::SLOTS];
-    let width = answer_table::glance(text, &mut starts, &mut ends);
-    if let Width::Is(n) = width {
-        return Front {
-            reading: judge(&text[..n], &starts, &ends),
-            length: n,
-        };
+    fn slots() -> &'static [u8] {
+        answer_table::forms()
     }
-    let end = pieces::piece_end(text, 0);
-    let piece = &text[..end];
-    let body = answer_table::take(piece);
-    let begun = body.starts;
-    let ended = body.ends;
-    Front {
-        reading: read_taken(piece, body.verdict, &begun, &ended),
-        length: end,
-    }
-}
 
-// Where the values of an accepted message stand, with the number and line of its reading; a refusal keeps no places.
-pub fn kept(message: &[u8]) -> Body
-    ensures { result ≡ kept_of mt509 message.now }
-{
-    let mut starts = [0usize; stretches::SLOTS];
-    let mut ends = [0usize; stretches::SLOTS];
-    let verdict = take(message, &mut starts, &mut ends);
-    let reading = read_taken(message, verdict, &starts, &ends);
-    if reading.number == 0 {
-        return Body {
-            verdict,
-            starts,
-            ends,
-        };
+    fn optional() -> &'static [u8] {
+        &answer_values::OPTIONAL
     }
-    Body {
-        verdict: Verdict {
-            number: reading.number,
-            line: reading.line,
-        },
-        starts: [0usize; stretches::SLOTS],
-        ends: [0usize; stretches::SLOTS],
+
+    fn amounts() -> &'static [u8] {
+        &[]
     }
+
+    fn blank() -> Answer {
+        answer::blank()
+    }
+
+    fn gather<'a, 'b>(message: &'a [u8], starts: &'b [usize], ends: &'b [usize]) -> Answer {
+        answer::gather(message, starts, ends)
+    }
+
+    fn read_rules<'a, 'b>(
+        message: &'a [u8],
+        starts: &'b [usize],
+        ends: &'b [usize],
+        held: Answer,
+    ) -> Verdict {
+        answer_rules::answer_pass(stretches::stretch(message, starts, ends, 2), held)
+    }
+
+    fn in_form(held: Answer) -> bool {
+        answer_judge::form::in_form(held)
+    }
+
+    fn write_rules(held: Answer) -> Verdict {
+        answer_rules::record_pass(held)
+    }
+
+    fn compose(buf: &mut [u8], held: Answer) -> usize {
+        writing::compose(buf, held)
+    }
+
+    fn fields() -> usize {
+        31
+    }
+
+    // No value has bytes that are not its field's.
+    fn beyond(_slot: usize) -> usize {
+        0
+    }
+
+    fn line() -> usize {
+        3
+    }
+
+    ghost readable = { is-readable };
+
+    ghost laws = { answer-laws };
+
+    ghost has_fields = { fields-are };
+
+    ghost has_amounts = { amounts-are };
+
+    ghost outlined = { is-outlined };
+
+    ghost short = { is_short };
 }
