@@ -22,7 +22,7 @@ use Rattle.answer_values.proofs.Widths.{status-most}
 use Rattle.answer.specs.Records.{no_reason, reason_at}
 use Rattle.answer.specs.declared.Reason.{Reason}
 use Rattle.answer.specs.declared.Answer.{Answer}
-use Rattle.mt509.specs.declared.Reading.{Reading}
+use Rattle.format.specs.declared.Reading.{Reading}
 use Rattle.fill.specs.Runs.{over_run, behind_run}
 use Rattle.fill.proofs.Runs.{Put, Run, one, measured, in-front, length_run, whole, over-append, behind-append, flat_append}
 use Rattle.listing.specs.Rows.{spaced, decimal, shown}
@@ -148,8 +148,8 @@ one_more b t rest l e = rw e (let h = contents-short t l in let k = length-appen
 
 -- ---- the field of the reasons
 
-abbrev pub reasons_field : Reading → List ℕ
-reasons_field r = cond (eqb r.number 0) (shown (joined (standing (codes_of r.answer)))) (bytes "-")
+abbrev pub reasons_field : Reading Answer → List ℕ
+reasons_field r = cond (eqb r.number 0) (shown (joined (standing (codes_of r.held)))) (bytes "-")
 
 joins : (b : ℕ) (s : List ℕ) (cs : List (List ℕ)) → joined ((b ∷ s) ∷ standing cs) ≡ (b ∷ s) ++ flatten (code_parts 44 cs)
 unfolding joined standing code_parts flatten bytes
@@ -165,20 +165,20 @@ field_is true [] = refl
 field_is true ([] ∷ cs) = refl
 field_is true ((b ∷ s) ∷ cs) = rw (joins b s cs)
 
-reasons-are : (r : Reading) → flatten (reason_parts r ++ (bytes "\n" ∷ [])) ≡ bytes " " ++ (reasons_field r ++ bytes "\n")
+reasons-are : (r : Reading Answer) → flatten (reason_parts r ++ (bytes "\n" ∷ [])) ≡ bytes " " ++ (reasons_field r ++ bytes "\n")
 unfolding reason_parts flatten bytes
-reasons-are r = flat_append (reason_parts r) (bytes "\n" ∷ []) ∙ rw (field_is (eqb r.number 0) (codes_of r.answer))
+reasons-are r = flat_append (reason_parts r) (bytes "\n" ∷ []) ∙ rw (field_is (eqb r.number 0) (codes_of r.held))
 
-module _ (r : Reading) where
+module _ (r : Reading Answer) where
   pub refused-parts : (r.number ≡ 0 → ⊥) → reason_parts r ≡ bytes " -" ∷ []
   unfolding reason_parts
   refused-parts n = rw (ne_eqb r.number 0 n)
 
-  pub none-parts : (r.number ≡ 0) → code_parts 32 (codes_of r.answer) ≡ [] → reason_parts r ≡ bytes " -" ∷ []
+  pub none-parts : (r.number ≡ 0) → code_parts 32 (codes_of r.held) ≡ [] → reason_parts r ≡ bytes " -" ∷ []
   unfolding reason_parts or_none
   none-parts z e = rw (eq-eqb r.number 0 z, e)
 
-  pub some-parts : (r.number ≡ 0) → {s : List ℕ} {ss : List (List ℕ)} → code_parts 32 (codes_of r.answer) ≡ s ∷ ss → code_parts 32 (codes_of r.answer) ≡ reason_parts r
+  pub some-parts : (r.number ≡ 0) → {s : List ℕ} {ss : List (List ℕ)} → code_parts 32 (codes_of r.held) ≡ s ∷ ss → code_parts 32 (codes_of r.held) ≡ reason_parts r
   unfolding reason_parts or_none
   some-parts z e = rw (eq-eqb r.number 0 z, e)
 
@@ -191,7 +191,7 @@ module _ (r : Reading) where
 -- ---- the fields in a line
 
 -- the parts of a row are its fields, spaced
-pub parts_are : (row : Row) (r : Reading) → flatten (parts_of row r) ≡ spaced (fields_in row ++ (reasons_field r ∷ []))
+pub parts_are : (row : Row) (r : Reading Answer) → flatten (parts_of row r) ≡ spaced (fields_in row ++ (reasons_field r ∷ []))
 unfolding flatten number_parts told_parts parts_of fields_in spaced bytes
 parts_are row r = rw (reasons-are r)
 
@@ -206,7 +206,7 @@ pub record Short (row : Row) : Type 0 where
   pub rela : length row.rela.bytes ≡ 20
 
 -- so that each field takes twenty bytes, and the one behind it
-pub row-short : (row : Row) (r : Reading) → Short row → length (flatten (reason_parts r)) ≤ 210 → length (flatten (parts_of row r)) ≤ 357
+pub row-short : (row : Row) (r : Reading Answer) → Short row → length (flatten (reason_parts r)) ≤ 210 → length (flatten (parts_of row r)) ≤ 357
 unfolding flatten number_parts told_parts parts_of bytes
 row-short row r s h =
     more row.message _ s.message
@@ -226,16 +226,16 @@ row-short row r s h =
     more t s e h = let l = contents-short t e in rw length-append (omega arith)
 
 -- the fields of a reading, its reasons by themselves
-fields-are : (message : ℕ) (r : Reading) → front_of message r ++ (reasons_field r ∷ []) ≡ fields_of message r
+fields-are : (message : ℕ) (r : Reading Answer) → front_of message r ++ (reasons_field r ∷ []) ≡ fields_of message r
 unfolding front_of fields_of linked unlinked told untold
 fields-are message r = rw (go (eqb r.number 0))
   where
-    go : (b : Bool) → cond b (linked r.answer) unlinked ++ (cond b (shown (joined (standing (codes_of r.answer)))) (bytes "-") ∷ []) ≡ cond b (told r.answer) untold
+    go : (b : Bool) → cond b (linked r.held) unlinked ++ (cond b (shown (joined (standing (codes_of r.held)))) (bytes "-") ∷ []) ≡ cond b (told r.held) untold
     go true = refl
     go false = refl
 
 -- what was composed in a line of that length stands in front of it, and is the row
-module _ (message : ℕ) (r : Reading) (row : Row) (is : fields_in row ≡ front_of message r) (line : List ℕ) (long : length line ≡ 357)
+module _ (message : ℕ) (r : Reading Answer) (row : Row) (is : fields_in row ≡ front_of message r) (line : List ℕ) (long : length line ≡ 357)
     {e : ℕ} {now : List ℕ} (run : Run line 0 (parts_of row r) e now) (short : length (flatten (parts_of row r)) ≤ 357) where
   row_is : flatten (parts_of row r) ≡ printed_row message r
   unfolding printed_row
@@ -258,14 +258,14 @@ module _ (message : ℕ) (r : Reading) (row : Row) (is : fields_in row ≡ front
 
 -- ---- the fields in front of the reasons, of a reading
 
-module _ (message : ℕ) (r : Reading) (row : Row) (one : contents row.message ≡ decimal message)
+module _ (message : ℕ) (r : Reading Answer) (row : Row) (one : contents row.message ≡ decimal message)
     (two : contents row.number ≡ decimal r.number) (three : contents row.line ≡ decimal r.line) where
   pub refused-is : (r.number ≡ 0 → ⊥) → contents row.status ≡ bytes "-" → contents row.mast ≡ bytes "-" → contents row.list ≡ bytes "-" → contents row.rela ≡ bytes "-"
       → fields_in row ≡ front_of message r
   unfolding fields_in front_of unlinked
   refused-is n s m l e = rw (ne_eqb r.number 0 n, one, two, three, s, m, l, e)
 
-  pub told_is : (r.number ≡ 0) → contents row.status ≡ without_issuer (status_text r.answer.status) → contents row.mast ≡ shown (contents r.answer.mast)
-      → contents row.list ≡ shown (contents r.answer.list) → contents row.rela ≡ shown (contents r.answer.rela) → fields_in row ≡ front_of message r
+  pub told_is : (r.number ≡ 0) → contents row.status ≡ without_issuer (status_text r.held.status) → contents row.mast ≡ shown (contents r.held.mast)
+      → contents row.list ≡ shown (contents r.held.list) → contents row.rela ≡ shown (contents r.held.rela) → fields_in row ≡ front_of message r
   unfolding fields_in front_of linked
   told_is z s m l e = rw (eq-eqb r.number 0 z, one, two, three, s, m, l, e)

@@ -5,7 +5,7 @@ use Rattle.text.specs.Bytes.{bytes}
 use Rattle.text.specs.Texts.{contents}
 use Rattle.status.specs.Statuses.{status_text}
 use Rattle.answer.specs.declared.Answer.{Answer}
-use Rattle.mt509.specs.declared.Reading.{Reading}
+use Rattle.format.specs.declared.Reading.{Reading}
 use Rattle.listing.specs.Rows.{decimal, shown, parted}
 use Rattle.answer_listing.specs.Rows.{without_issuer, codes_of}
 use Rattle.answer_listing.specs.declared.Row.{Row}
@@ -25,8 +25,8 @@ linked a = without_issuer (status_text a.status) ∷ shown (contents a.mast) ∷
 unfoldable pub unlinked : List (List ℕ)
 unlinked = bytes "-" ∷ bytes "-" ∷ bytes "-" ∷ bytes "-" ∷ []
 
-unfoldable pub front_of : ℕ → Reading → List (List ℕ)
-front_of message r = decimal message ∷ decimal r.number ∷ decimal r.line ∷ cond (eqb r.number 0) (linked r.answer) unlinked
+unfoldable pub front_of : ℕ → Reading Answer → List (List ℕ)
+front_of message r = decimal message ∷ decimal r.number ∷ decimal r.line ∷ cond (eqb r.number 0) (linked r.held) unlinked
 
 -- ---- the reasons
 
@@ -41,8 +41,8 @@ unfoldable pub or_none : List (List ℕ) → List (List ℕ)
 or_none [] = bytes " -" ∷ []
 or_none (s ∷ ss) = s ∷ ss
 
-unfoldable pub reason_parts : Reading → List (List ℕ)
-reason_parts r = cond (eqb r.number 0) (or_none (code_parts 32 (codes_of r.answer))) (bytes " -" ∷ [])
+unfoldable pub reason_parts : Reading Answer → List (List ℕ)
+reason_parts r = cond (eqb r.number 0) (or_none (code_parts 32 (codes_of r.held))) (bytes " -" ∷ [])
 
 -- ---- all of them, one behind the other
 
@@ -53,5 +53,5 @@ unfoldable pub told_parts : Row → List (List ℕ)
 told_parts row =
     parted (contents row.status) ++ (parted (contents row.mast) ++ (parted (contents row.list) ++ (contents row.rela ∷ [])))
 
-unfoldable pub parts_of : Row → Reading → List (List ℕ)
+unfoldable pub parts_of : Row → Reading Answer → List (List ℕ)
 parts_of row r = number_parts row ++ (told_parts row ++ (reason_parts r ++ (bytes "\n" ∷ [])))

@@ -5,7 +5,7 @@ use Rattle.text.specs.Bytes.{bytes}
 use Rattle.text.specs.Texts.{contents}
 use Rattle.status.specs.Statuses.{status_text}
 use Rattle.answer.specs.declared.Answer.{Answer}
-use Rattle.mt509.specs.declared.Reading.{Reading}
+use Rattle.format.specs.declared.Reading.{Reading}
 use Rattle.listing.specs.Rows.{spaced, decimal, shown}
 
 unfoldable pub heading : List ℕ
@@ -44,8 +44,8 @@ unfoldable pub untold : List (List ℕ)
 untold = bytes "-" ∷ bytes "-" ∷ bytes "-" ∷ bytes "-" ∷ bytes "-" ∷ []
 
 -- the fields of a message: its place in the batch, counted from 1, and how it is read
-unfoldable pub fields_of : ℕ → Reading → List (List ℕ)
-fields_of message r = decimal message ∷ decimal r.number ∷ decimal r.line ∷ cond (eqb r.number 0) (told r.answer) untold
+unfoldable pub fields_of : ℕ → Reading Answer → List (List ℕ)
+fields_of message r = decimal message ∷ decimal r.number ∷ decimal r.line ∷ cond (eqb r.number 0) (told r.held) untold
 
-unfoldable pub printed_row : ℕ → Reading → List ℕ
+unfoldable pub printed_row : ℕ → Reading Answer → List ℕ
 printed_row message r = spaced (fields_of message r)

@@ -15,7 +15,7 @@ ghost use Rattle.answer_listing.specs.Rows.{heading, without_issuer, codes_of, p
 ghost use Rattle.answer_listing.specs.Composed.{fields_in, front_of, code_parts, reason_parts, number_parts, told_parts, parts_of};
 
 use answer::Answer;
-use mt509::Reading;
+use format::Reading;
 use status::Status;
 use text::Text;
 
@@ -55,7 +55,7 @@ fn status_text(status: Status) -> Text
 }
 
 // The fields in front of the reasons; of what is refused no field of the record.
-fn row_of(message: u64, reading: Reading) -> Row
+fn row_of(message: u64, reading: Reading<Answer>) -> Row
     ensures { fields_in result ≡ front_of message reading }
 {
     let message = listing::decimal(message);
@@ -77,10 +77,10 @@ fn row_of(message: u64, reading: Reading) -> Row
         message,
         number,
         line,
-        status: status_text(reading.answer.status),
-        mast: listing::shown(reading.answer.mast),
-        list: listing::shown(reading.answer.list),
-        rela: listing::shown(reading.answer.rela),
+        status: status_text(reading.held.status),
+        mast: listing::shown(reading.held.mast),
+        list: listing::shown(reading.held.list),
+        rela: listing::shown(reading.held.rela),
     }
 }
 
@@ -114,13 +114,13 @@ fn put_codes(line: &mut [u8], at: usize, answer: Answer) -> usize
 }
 
 // The field of the reasons and the blank before it.
-fn put_reasons(line: &mut [u8], at: usize, reading: Reading) -> usize
+fn put_reasons(line: &mut [u8], at: usize, reading: Reading<Answer>) -> usize
     ensures { (result ≡ behind_run line.old at (reason_parts reading)) × (line.new ≡ over_run line.old at (reason_parts reading)) × (length (flatten (reason_parts reading)) ≤ 210) }
 {
     if reading.number != 0 {
         return text::put(line, at, b" -");
     }
-    let answer = reading.answer;
+    let answer = reading.held;
     let first = answer::reason_at(answer, 0);
     if first.code.len == 0 {
         return text::put(line, at, b" -");
@@ -148,7 +148,7 @@ fn put_told(line: &mut [u8], at: usize, row: Row) -> usize
 }
 
 // The fields one behind the other; LF behind the last. They are seven texts and at most ten codes, and a byte behind each.
-fn compose(line: &mut [u8], row: Row, reading: Reading) -> usize
+fn compose(line: &mut [u8], row: Row, reading: Reading<Answer>) -> usize
     ensures { (result ≡ behind_run line.old 0 (parts_of row reading)) × (line.new ≡ over_run line.old 0 (parts_of row reading)) × (length (flatten (parts_of row reading)) ≤ 357) }
 {
     let told = put_numbers(line, row);
@@ -166,7 +166,7 @@ pub fn put_heading(buf: &mut [u8]) -> usize
 
 // Puts the row of a message, given its place in the batch and its reading, at the start of a lent buffer, as `text::put` puts a
 // part. A buffer of 357 bytes has room for every row.
-pub fn put_row(buf: &mut [u8], message: u64, reading: Reading) -> usize
+pub fn put_row(buf: &mut [u8], message: u64, reading: Reading<Answer>) -> usize
     ensures { (result ≡ after buf.old 0 (printed_row message reading)) × (buf.new ≡ placed buf.old 0 (printed_row message reading)) × (length (printed_row message reading) ≤ 357) }
 {
     let row = row_of(message, reading);

@@ -4,6 +4,8 @@
 // as it comes, and the output is never held.
 #![tactic(auto)]
 
+use mt509::Mt509;
+
 // The heading stands also where there is no message.
 fn head() {
     let mut heading = [0u8; 44];
@@ -17,7 +19,7 @@ fn list(batch: &[u8]) {
     let mut message: u64 = 1;
     let mut position = 0;
     while position < batch.len() {
-        let found = answer_batch::next(batch, position);
+        let found = batch::next::<Mt509>(batch, position);
         let size = answer_listing::put_row(&mut row, message, found.reading);
         io::write_all(1, &row[..size]);
         message += 1;

@@ -10,7 +10,6 @@ use Rattle.format.specs.Writing as AnyType
 use Rattle.format.proofs.Demands as Proved
 use Rattle.values.specs.Mt515.{mt515}
 use Rattle.values.proofs.Laid.{layout}
-use Rattle.mt515.specs.Reading.{told, read_of}
 use Rattle.message.specs.Messages.{message_of}
 use Rattle.message.specs.Writing.{write_number, write_length}
 use Rattle.message.specs.Cases.{broadest, writes}
@@ -36,15 +35,15 @@ broadest-long =
 -- ---- the demands
 
 pub demands : Demands
-unfolding read_of AnyType.writable broadest
+unfolding AnyType.writable broadest
 demands =
     record {
       accepts-lawful = any.accepts-lawful;
-      reads-fields = λ m w. ap told (any.reads-fields m w);
-      reads-back = λ t h. ap told (any.reads-back t h);
+      reads-fields = any.reads-fields;
+      reads-back = any.reads-back;
       writes-plain = any.writes-plain;
       writes = any.writes;
-      plain-again = λ m z. let p = any.plain-again m z in (ap told p.0, p.1);
+      plain-again = any.plain-again;
       same-record = any.same-record;
       written_apart = any.written_apart;
       no-beginning = any.no-beginning;

@@ -1,3 +1,4 @@
+pub mod Asked
 pub mod Laws
 pub mod Demands
 pub mod Answers

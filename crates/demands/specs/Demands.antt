@@ -1,5 +1,5 @@
 -- The second and the third demand, in the README's order and words, as statements about the MT515's definitions. What the functions
--- promise ties them to these: `mt515::read` answers read_of, `message::write` answers write_number and write_length and leaves
+-- promise ties them to these: `reading::read` answers read_of, `writing::write` answers write_number and write_length and leaves
 -- written_over. Each is proved in proofs/Demands: they are an instance of format's specs/Demands, which says them of any message type.
 use Rattle.std.specs.Prelude.{ℕ, ◌≤◌, ◌≡◌, true, List, [], ◌++◌, map, ◌↔◌, ◌⊎◌, length}
 use Rattle.text.specs.Copy.{over}
@@ -8,11 +8,11 @@ use Rattle.sheets.specs.Sheets.{Entry}
 use Rattle.trade.specs.Records.{trade_of}
 use Rattle.trade.specs.declared.Kind.{Kind}
 use Rattle.trade.specs.declared.Trade.{Trade}
-use Rattle.mt515.specs.Reading.{read_of}
-use Rattle.mt515.specs.declared.Reading.{Reading}
 use Rattle.message.specs.Messages.{message_of}
 use Rattle.message.specs.Plain.{plain_of}
 use Rattle.message.specs.Writing.{write_number, write_length, written_over, writable}
+use Rattle.format.specs.Reading as Read
+use Rattle.format.specs.declared.Reading.{Reading}
 use Rattle.format.specs.Lawful as AnyType
 use Rattle.format.specs.Demands as Every
 use Rattle.values.specs.Mt515.{mt515}
@@ -26,15 +26,19 @@ Lawful m = AnyType.Lawful mt515 m
 abbrev pub said_in : List ℕ → List Entry → ℕ → List ℕ
 said_in m es slot = AnyType.said_in mt515 m es slot
 
+-- what a read answers
+abbrev pub read_of : List ℕ → Reading Trade
+read_of m = Read.read_of mt515 m
+
 abbrev pub Accepted : List ℕ → Type 0
 Accepted m = (read_of m).number ≡ 0
 
 abbrev pub record_of : List ℕ → Trade
-record_of m = (read_of m).trade
+record_of m = (read_of m).held
 
 -- what a read answers that accepts
-abbrev pub accepts : Trade → Reading
-accepts t = record { number = 0; line = 0; trade = t }
+abbrev pub accepts : Trade → Reading Trade
+accepts t = Every.accepts mt515 t
 
 -- ---- 2. It accepts an MT515 exactly when document 01's layout and rules are met and reads every field as they say
 

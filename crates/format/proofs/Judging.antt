@@ -20,6 +20,23 @@ pub rules-short : (rules : Verdict) (n : ℕ) → rules.number ≡ 0 → n ≤ 3
 unfolding then when pass refused
 rules-short rules n kept h = rw (kept, le-ltb 35 (4 + n) (omega arith))
 
+-- rules and then the narrative's width, as they are found one after the other
+module _ (rules : Verdict) (n : ℕ) (v : Verdict) (is : v ≡ rules) where
+  abbrev narrow-by : Verdict
+  narrow-by = when (ltb 35 (4 + n)) 20
+
+  pub stays : (v.number ≡ 0 → ⊥) → v ≡ then rules narrow-by
+  stays h = stop v rules narrow-by is h
+
+  module _ (kept : v.number ≡ 0) (k : ℕ) (long : k ≡ n) where
+    pub too_wide : 31 < k → record { number = 20; line = 0 } ≡ then rules narrow-by
+    unfolding refused
+    too_wide h = broken (ltb 35 (4 + n)) 20 (lt-ltb 35 (4 + n) (omega arith)) ∙ go v rules narrow-by is kept
+
+    pub narrow_enough : k ≤ 31 → record { number = 0; line = 0 } ≡ then rules narrow-by
+    unfolding pass refused
+    narrow_enough h = passed (ltb 35 (4 + n)) 20 (le-ltb 35 (4 + n) (omega arith)) ∙ go v rules narrow-by is kept
+
 module _ (F : Format) (r : F.Held) where
   number : Verdict → ℕ
   number v = v.number

@@ -15,8 +15,7 @@ use Rattle.answer.specs.declared.Answer.{Answer}
 use Rattle.answer_rules.specs.Rules.{record_pass, answer_pass}
 use Rattle.answer_values.specs.Mt509.{mt509}
 use Rattle.answer_values.proofs.Laid.{bars-22}
-use Rattle.mt509.specs.Reading.{read_of}
-use Rattle.answer_batch.specs.Batch.{blank_reading, says_of, next_of}
+use Rattle.batch.specs.Batch.{blank_reading, says_of, next_of}
 use Rattle.gateway.specs.AnswerNumbers.{AnswerNumbers}
 
 -- 13 to 15
@@ -28,14 +27,14 @@ rules-few function a = chained-few 22 ((_, 13) ∷ (_, 14) ∷ (_, 15) ∷ []) r
 verdict-few : (m : List ℕ) → Few 22 (AnyType.verdict_of mt509 m)
 verdict-few = read-few mt509 22 (few _ _ refl) bars-22 (λ value a. rules-few (value 2) a)
 
-next-few : (turn : Turn) (piece : List ℕ) → (says_of turn piece).number ≤ 22
-unfolding says_of blank_reading read_of AnyType.read_of AnyType.reading
+next-few : (turn : Turn) (piece : List ℕ) → (says_of mt509 turn piece).number ≤ 22
+unfolding says_of blank_reading AnyType.read_of AnyType.reading
 next-few Turn.Message piece = let h = verdict-few piece in omega (arith, h)
 next-few Turn.Done piece = few _ _ refl
 next-few Turn.Past piece = few _ _ refl
 
 pub numbers : AnswerNumbers
-unfolding read_of AnyType.read_of AnyType.reading next_of
+unfolding AnyType.read_of AnyType.reading next_of
 numbers =
     record {
       read = verdict-few;

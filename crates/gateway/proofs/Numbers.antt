@@ -15,7 +15,6 @@ use Rattle.trade.specs.declared.Trade.{Trade}
 use Rattle.kinds.specs.Kinds.{record_pass, kinds_pass}
 use Rattle.values.specs.Mt515.{mt515}
 use Rattle.values.proofs.Laid.{no-bars}
-use Rattle.mt515.specs.Reading.{verdict_of, read_of}
 use Rattle.batch.specs.Batch.{blank_reading, says_of, next_of}
 use Rattle.gateway.specs.Numbers.{Numbers}
 
@@ -31,17 +30,17 @@ rules-few t = then-few 20 _ _ (chained-few 20 ((_, 14) ∷ (_, 15) ∷ (_, 16) �
 
 -- ---- and all answers
 
-verdict-few : (m : List ℕ) → Few 17 (verdict_of m)
+verdict-few : (m : List ℕ) → Few 17 (AnyType.verdict_of mt515 m)
 verdict-few = read-few mt515 17 (few _ _ refl) (no-bars _) (λ value t. kinds-few (value 2) t)
 
-next-few : (turn : Turn) (piece : List ℕ) → (says_of turn piece).number ≤ 21
-unfolding says_of blank_reading read_of AnyType.read_of AnyType.reading
+next-few : (turn : Turn) (piece : List ℕ) → (says_of mt515 turn piece).number ≤ 21
+unfolding says_of blank_reading AnyType.read_of AnyType.reading
 next-few Turn.Message piece = let h = verdict-few piece in omega (arith, h)
 next-few Turn.Done piece = few _ _ refl
 next-few Turn.Past piece = few _ _ refl
 
 pub numbers : Numbers
-unfolding read_of AnyType.read_of AnyType.reading next_of
+unfolding AnyType.read_of AnyType.reading next_of
 numbers =
     record {
       read = verdict-few;

@@ -15,8 +15,7 @@ use Rattle.pool_trade.specs.declared.PoolTrade.{PoolTrade}
 use Rattle.pool_kinds.specs.Kinds.{record_pass, kinds_pass}
 use Rattle.pool_values.specs.Pool.{pool}
 use Rattle.pool_values.proofs.Laid.{no-bars}
-use Rattle.pool.specs.Reading.{read_of}
-use Rattle.pool_batch.specs.Batch.{blank_reading, says_of, next_of}
+use Rattle.batch.specs.Batch.{blank_reading, says_of, next_of}
 use Rattle.gateway.specs.PoolNumbers.{PoolNumbers}
 
 -- 13 to 17
@@ -27,14 +26,14 @@ kinds-few function t = chained-few 17 ((_, 13) ∷ (_, 14) ∷ (_, 15) ∷ (_, 1
 verdict-few : (m : List ℕ) → Few 17 (AnyType.verdict_of pool m)
 verdict-few = read-few pool 17 (few _ _ refl) (no-bars _) (λ value t. kinds-few (value 2) t)
 
-next-few : (turn : Turn) (piece : List ℕ) → (says_of turn piece).number ≤ 21
-unfolding says_of blank_reading read_of AnyType.read_of AnyType.reading
+next-few : (turn : Turn) (piece : List ℕ) → (says_of pool turn piece).number ≤ 21
+unfolding says_of blank_reading AnyType.read_of AnyType.reading
 next-few Turn.Message piece = let h = verdict-few piece in omega (arith, h)
 next-few Turn.Done piece = few _ _ refl
 next-few Turn.Past piece = few _ _ refl
 
 pub numbers : PoolNumbers
-unfolding read_of AnyType.read_of AnyType.reading next_of
+unfolding AnyType.read_of AnyType.reading next_of
 numbers =
     record {
       read = verdict-few;

@@ -3,10 +3,10 @@
 use Rattle.std.specs.Prelude.{ℕ, ◌≤◌, List}
 use Rattle.format.specs.Asking.{ask_verdict}
 use Rattle.answer_values.specs.Mt509.{mt509}
-use Rattle.mt509.specs.Reading.{read_of}
-use Rattle.answer_batch.specs.Batch.{next_of}
+use Rattle.format.specs.Reading.{read_of}
+use Rattle.batch.specs.Batch.{next_of}
 
 pub record AnswerNumbers : Type 0 where
-  pub read : (m : List ℕ) → (read_of m).number ≤ 22
+  pub read : (m : List ℕ) → (read_of mt509 m).number ≤ 22
   pub plain : (m : List ℕ) (room : ℕ) → (ask_verdict mt509 m room).number ≤ 22
-  pub next : (batch : List ℕ) (position : ℕ) → (next_of batch position).reading.number ≤ 22
+  pub next : (batch : List ℕ) (position : ℕ) → (next_of mt509 batch position).reading.number ≤ 22

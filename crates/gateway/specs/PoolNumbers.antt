@@ -3,10 +3,10 @@
 use Rattle.std.specs.Prelude.{ℕ, ◌≤◌, List}
 use Rattle.format.specs.Asking.{ask_verdict}
 use Rattle.pool_values.specs.Pool.{pool}
-use Rattle.pool.specs.Reading.{read_of}
-use Rattle.pool_batch.specs.Batch.{next_of}
+use Rattle.format.specs.Reading.{read_of}
+use Rattle.batch.specs.Batch.{next_of}
 
 pub record PoolNumbers : Type 0 where
-  pub read : (m : List ℕ) → (read_of m).number ≤ 17
+  pub read : (m : List ℕ) → (read_of pool m).number ≤ 17
   pub plain : (m : List ℕ) (room : ℕ) → (ask_verdict pool m room).number ≤ 19
-  pub next : (batch : List ℕ) (position : ℕ) → (next_of batch position).reading.number ≤ 21
+  pub next : (batch : List ℕ) (position : ℕ) → (next_of pool batch position).reading.number ≤ 21

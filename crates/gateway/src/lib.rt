@@ -8,25 +8,29 @@ mod answers;
 mod netting;
 
 ghost use Rattle.std.specs.Prelude.{◌≡◌, length};
-ghost use Rattle.mt515.specs.Reading.{read_of};
-ghost use Rattle.message.specs.Writing.{writing_of, written_over};
-ghost use Rattle.packed.specs.Packed.{packed_of};
-ghost use Rattle.unpacked.specs.Unpacked.{unpacked_of};
+ghost use Rattle.format.specs.Reading.{read_of};
+ghost use Rattle.format.specs.Writing.{written_over};
+ghost use Rattle.format.specs.Asking.{asked_over};
 ghost use Rattle.batch.specs.Batch.{next_of};
 ghost use Rattle.field.specs.Field.{place_of};
 ghost use Rattle.outline.specs.Outline.{outline_of};
-ghost use Rattle.plain.specs.Asking.{asking_of, asked_over};
+ghost use Rattle.writing.specs.Writing.{writing_of};
+ghost use Rattle.asking.specs.Asking.{asking_of};
+ghost use Rattle.values.specs.Mt515.{mt515};
+ghost use Rattle.packed.specs.Packed.{packed_of};
+ghost use Rattle.unpacked.specs.Unpacked.{unpacked_of};
 ghost use Rattle.gateway.specs.Numbers.{turn_number};
 
+use mt515::Mt515;
 use pieces::Turn;
 
 // Reads a message.
 #[unsafe(no_mangle)]
 pub extern "C" fn mt515_read(message: &[u8], bytes: &mut [u8; 375], line: &mut usize) -> u8
-    ensures { (result ≡ (read_of message.now).number) × (bytes.new ≡ packed_of (read_of message.now).trade) × (line.new ≡ (read_of message.now).line) }
+    ensures { (result ≡ (read_of mt515 message.now).number) × (bytes.new ≡ packed_of (read_of mt515 message.now).held) × (line.new ≡ (read_of mt515 message.now).line) }
 {
-    let reading = mt515::read(message);
-    packed::pack(reading.trade, bytes);
+    let reading = reading::read::<Mt515>(message);
+    packed::pack(reading.held, bytes);
     *line = reading.line;
     reading.number as u8
 }
@@ -39,9 +43,9 @@ pub extern "C" fn mt515_field(
     offset: &mut usize,
     count: &mut usize,
 ) -> u8
-    ensures { (result ≡ (place_of message.now slot).number) × (offset.new ≡ (place_of message.now slot).offset) × (count.new ≡ (place_of message.now slot).count) }
+    ensures { (result ≡ (place_of mt515 message.now slot).number) × (offset.new ≡ (place_of mt515 message.now slot).offset) × (count.new ≡ (place_of mt515 message.now slot).count) }
 {
-    let place = field::place(message, slot);
+    let place = field::place::<Mt515>(message, slot);
     *offset = place.offset;
     *count = place.count;
     place.number as u8
@@ -55,9 +59,9 @@ pub extern "C" fn mt515_places(
     ends: &mut [usize; 24],
     line: &mut usize,
 ) -> u8
-    ensures { (result ≡ (outline_of message.now).number) × (starts.new ≡ (outline_of message.now).starts) × (ends.new ≡ (outline_of message.now).ends) × (line.new ≡ (outline_of message.now).line) }
+    ensures { (result ≡ (outline_of mt515 1 24 message.now).number) × (starts.new ≡ (outline_of mt515 1 24 message.now).starts) × (ends.new ≡ (outline_of mt515 1 24 message.now).ends) × (line.new ≡ (outline_of mt515 1 24 message.now).line) }
 {
-    let all = outline::of(message);
+    let all = outline::of::<Mt515, 24>(message);
     let begun = all.starts;
     let ended = all.ends;
     *starts = begun;
@@ -74,9 +78,9 @@ pub extern "C" fn mt515_plain(
     line: &mut usize,
     written: &mut usize,
 ) -> u8
-    ensures { (result ≡ (asking_of message.now (length out.old)).number) × (line.new ≡ (asking_of message.now (length out.old)).line) × (written.new ≡ (asking_of message.now (length out.old)).length) × (out.new ≡ asked_over message.now out.old) }
+    ensures { (result ≡ (asking_of mt515 message.now (length out.old)).number) × (line.new ≡ (asking_of mt515 message.now (length out.old)).line) × (written.new ≡ (asking_of mt515 message.now (length out.old)).length) × (out.new ≡ asked_over mt515 message.now out.old) }
 {
-    let asking = plain::plain(message, out);
+    let asking = asking::plain::<Mt515>(message, out);
     *line = asking.line;
     *written = asking.length;
     asking.number as u8
@@ -85,7 +89,7 @@ pub extern "C" fn mt515_plain(
 // Writes the message of a record into a lent buffer.
 #[unsafe(no_mangle)]
 pub extern "C" fn mt515_write(bytes: &[u8; 375], out: &mut [u8], written: &mut usize) -> u8
-    ensures { (result ≡ (writing_of (unpacked_of bytes.now).trade (length out.old)).number) × (written.new ≡ (writing_of (unpacked_of bytes.now).trade (length out.old)).length) × (out.new ≡ written_over (unpacked_of bytes.now).trade out.old) }
+    ensures { (result ≡ (writing_of mt515 (unpacked_of bytes.now).trade (length out.old)).number) × (written.new ≡ (writing_of mt515 (unpacked_of bytes.now).trade (length out.old)).length) × (out.new ≡ written_over mt515 (unpacked_of bytes.now).trade out.old) }
 {
     let writing = unpacked::write(bytes, out);
     *written = writing.length;
@@ -113,12 +117,12 @@ pub extern "C" fn mt515_next(
     next: &mut usize,
     number: &mut u8,
 ) -> u8
-    ensures { (result ≡ turn_number (next_of batch.now position).turn) × (bytes.new ≡ packed_of (next_of batch.now position).reading.trade) × (line.new ≡ (next_of batch.now position).reading.line) × (next.new ≡ (next_of batch.now position).position) × (number.new ≡ (next_of batch.now position).reading.number) }
+    ensures { (result ≡ turn_number (next_of mt515 batch.now position).turn) × (bytes.new ≡ packed_of (next_of mt515 batch.now position).reading.held) × (line.new ≡ (next_of mt515 batch.now position).reading.line) × (next.new ≡ (next_of mt515 batch.now position).position) × (number.new ≡ (next_of mt515 batch.now position).reading.number) }
 {
-    let answer = batch::next(batch, position);
+    let answer = batch::next::<Mt515>(batch, position);
     let turn = answer.turn;
     let reading = answer.reading;
-    packed::pack(reading.trade, bytes);
+    packed::pack(reading.held, bytes);
     *line = reading.line;
     *next = answer.position;
     *number = reading.number as u8;

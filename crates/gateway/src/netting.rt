@@ -1,14 +1,15 @@
 // The MT515 of pool netting for a C program. include/pool.h declares the entries.
 ghost use Rattle.std.specs.Prelude.{◌≡◌, length};
 ghost use Rattle.format.specs.Asking.{asked_over};
+ghost use Rattle.batch.specs.Batch.{next_of};
+ghost use Rattle.field.specs.Field.{place_of};
+ghost use Rattle.outline.specs.Outline.{outline_of};
+ghost use Rattle.asking.specs.Asking.{asking_of};
 ghost use Rattle.pool_values.specs.Pool.{pool};
-ghost use Rattle.pool_batch.specs.Batch.{next_of};
-ghost use Rattle.pool_field.specs.Field.{place_of};
-ghost use Rattle.pool_outline.specs.Outline.{outline_of};
-ghost use Rattle.pool_plain.specs.Asking.{asking_of};
 ghost use Rattle.gateway.specs.Numbers.{turn_number};
 
 use super::turn_number;
+use pool::Pool;
 
 // Reads a message: where each of its fields begins and where it ends.
 #[unsafe(no_mangle)]
@@ -18,9 +19,9 @@ pub extern "C" fn pool_read(
     ends: &mut [usize; 22],
     line: &mut usize,
 ) -> u8
-    ensures { (result ≡ (outline_of message.now).number) × (starts.new ≡ (outline_of message.now).starts) × (ends.new ≡ (outline_of message.now).ends) × (line.new ≡ (outline_of message.now).line) }
+    ensures { (result ≡ (outline_of pool 1 22 message.now).number) × (starts.new ≡ (outline_of pool 1 22 message.now).starts) × (ends.new ≡ (outline_of pool 1 22 message.now).ends) × (line.new ≡ (outline_of pool 1 22 message.now).line) }
 {
-    let all = pool_outline::of(message);
+    let all = outline::of::<Pool, 22>(message);
     let begun = all.starts;
     let ended = all.ends;
     *starts = begun;
@@ -37,9 +38,9 @@ pub extern "C" fn pool_field(
     offset: &mut usize,
     count: &mut usize,
 ) -> u8
-    ensures { (result ≡ (place_of message.now slot).number) × (offset.new ≡ (place_of message.now slot).offset) × (count.new ≡ (place_of message.now slot).count) }
+    ensures { (result ≡ (place_of pool message.now slot).number) × (offset.new ≡ (place_of pool message.now slot).offset) × (count.new ≡ (place_of pool message.now slot).count) }
 {
-    let place = pool_field::place(message, slot);
+    let place = field::place::<Pool>(message, slot);
     *offset = place.offset;
     *count = place.count;
     place.number as u8
@@ -53,9 +54,9 @@ pub extern "C" fn pool_plain(
     line: &mut usize,
     written: &mut usize,
 ) -> u8
-    ensures { (result ≡ (asking_of message.now (length out.old)).number) × (line.new ≡ (asking_of message.now (length out.old)).line) × (written.new ≡ (asking_of message.now (length out.old)).length) × (out.new ≡ asked_over pool message.now out.old) }
+    ensures { (result ≡ (asking_of pool message.now (length out.old)).number) × (line.new ≡ (asking_of pool message.now (length out.old)).line) × (written.new ≡ (asking_of pool message.now (length out.old)).length) × (out.new ≡ asked_over pool message.now out.old) }
 {
-    let asking = pool_plain::plain(message, out);
+    let asking = asking::plain::<Pool>(message, out);
     *line = asking.line;
     *written = asking.length;
     asking.number as u8
@@ -70,9 +71,9 @@ pub extern "C" fn pool_next(
     next: &mut usize,
     number: &mut u8,
 ) -> u8
-    ensures { (result ≡ turn_number (next_of batch.now position).turn) × (line.new ≡ (next_of batch.now position).reading.line) × (next.new ≡ (next_of batch.now position).position) × (number.new ≡ (next_of batch.now position).reading.number) }
+    ensures { (result ≡ turn_number (next_of pool batch.now position).turn) × (line.new ≡ (next_of pool batch.now position).reading.line) × (next.new ≡ (next_of pool batch.now position).position) × (number.new ≡ (next_of pool batch.now position).reading.number) }
 {
-    let answer = pool_batch::next(batch, position);
+    let answer = batch::next::<Pool>(batch, position);
     let turn = answer.turn;
     let reading = answer.reading;
     *line = reading.line;

@@ -67,7 +67,7 @@ fn header_form(trade: Trade) -> bool
     password & sender
 }
 
-pub(crate) fn in_form(trade: Trade) -> bool
+pub fn in_form(trade: Trade) -> bool
     ensures { result ≡ in_form trade }
 {
     let general = general_form(trade);

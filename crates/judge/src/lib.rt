@@ -1,28 +1,29 @@
-// Whether a record may be written: the numbers that it shows by itself.
+// Whether the fields of a trade are in form, and the rules that its record shows by itself.
 //
-// What is right stands in specs/Judging, and of a record in form in values' specs/Writable.
+// What is right stands in values' specs/Writable and specs/Mt515; specs/Judging has the numbers that a record shows by itself.
 #![tactic(auto)]
 
-mod form;
+pub mod form;
 
 ghost use Rattle.std.specs.Prelude.{◌≡◌};
-ghost use Rattle.judge.specs.Judging.{judge_of};
+ghost use Rattle.values.specs.Mt515.{mt515};
 
+use lines::Verdict;
 use trade::Trade;
 
-// The number that a record shows by itself when it is to be written: the first of 18, 14, 15, 16, 17 and 20, or 0.
-pub fn judge(trade: Trade) -> u64
-    ensures { result ≡ judge_of trade }
+// The rules of line 0 when a trade is written: the first of 14 to 17 that is broken, and then 20.
+pub fn write_rules(trade: Trade) -> Verdict
+    ensures { result ≡ mt515.write_rules trade }
 {
-    if !form::in_form(trade) {
-        return 18;
-    }
     let rules = kinds::record_pass(trade);
     if rules.number != 0 {
-        return rules.number;
+        return rules;
     }
     if 31 < values::narrative_length(trade) {
-        return 20;
+        return Verdict {
+            number: 20,
+            line: 0,
+        };
     }
-    0
+    Verdict::PASS
 }

@@ -4,6 +4,8 @@
 // as it comes, and the output is never held.
 #![tactic(auto)]
 
+use mt515::Mt515;
+
 // The heading stands also where there is no message.
 fn head() {
     let mut heading = [0u8; 34];
@@ -17,7 +19,7 @@ fn list(batch: &[u8]) {
     let mut message: u64 = 1;
     let mut position = 0;
     while position < batch.len() {
-        let answer = batch::next(batch, position);
+        let answer = batch::next::<Mt515>(batch, position);
         let size = listing::put_row(&mut row, message, answer.reading);
         io::write_all(1, &row[..size]);
         message += 1;

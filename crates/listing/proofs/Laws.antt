@@ -19,7 +19,7 @@ use Rattle.amount.proofs.Trims.{trimmed-drop, noughts-length}
 use Rattle.trade.specs.declared.Kind.{Kind}
 use Rattle.values.specs.Values.{kind_word}
 use Rattle.values.proofs.Widths.{kind-four}
-use Rattle.mt515.specs.declared.Reading.{Reading}
+use Rattle.format.specs.declared.Reading.{Reading}
 use Rattle.fill.proofs.Runs.{Put, Run, two, measured, in-front, length_run, whole}
 use Rattle.listing.specs.Rows.{spaced, decimal, shown, shown_text, told, untold, fields_of, printed_row}
 use Rattle.listing.specs.Composed.{fields_in, parts_of}
@@ -120,7 +120,7 @@ row-short row s =
     more t s e h = let l = contents-short t e in rw length-append (omega arith)
 
 -- what was composed in a line of that length stands in front of it, and is the row
-module _ (message : ℕ) (r : Reading) (row : Row) (is : fields_in row ≡ fields_of message r) (line : List ℕ) (long : length line ≡ 147)
+module _ (message : ℕ) (r : Reading Trade) (row : Row) (is : fields_in row ≡ fields_of message r) (line : List ℕ) (long : length line ≡ 147)
     {e : ℕ} {now : List ℕ} (run : Run line 0 (parts_of row) e now) (short : length (spaced (fields_in row)) ≤ 147) where
   row_is : spaced (fields_in row) ≡ printed_row message r
   unfolding printed_row
@@ -147,14 +147,14 @@ module _ (message : ℕ) (r : Reading) (row : Row) (is : fields_in row ≡ field
 
 -- ---- the fields of a reading
 
-module _ (message : ℕ) (r : Reading) (row : Row) (one : contents row.message ≡ decimal message)
+module _ (message : ℕ) (r : Reading Trade) (row : Row) (one : contents row.message ≡ decimal message)
     (two : contents row.number ≡ decimal r.number) (three : contents row.line ≡ decimal r.line) where
   pub refused-is : (r.number ≡ 0 → ⊥) → contents row.kind ≡ bytes "-" → contents row.mast ≡ bytes "-" → contents row.buyer ≡ bytes "-" → contents row.seller ≡ bytes "-"
       → fields_in row ≡ fields_of message r
   unfolding fields_in fields_of untold
   refused-is n k m b s = rw (ne_eqb r.number 0 n, one, two, three, k, m, b, s)
 
-  pub told_is : (r.number ≡ 0) → contents row.kind ≡ kind_word r.trade.kind → contents row.mast ≡ shown (contents r.trade.mast)
-      → contents row.buyer ≡ shown (contents r.trade.buyer.code) → contents row.seller ≡ shown (contents r.trade.seller.code) → fields_in row ≡ fields_of message r
+  pub told_is : (r.number ≡ 0) → contents row.kind ≡ kind_word r.held.kind → contents row.mast ≡ shown (contents r.held.mast)
+      → contents row.buyer ≡ shown (contents r.held.buyer.code) → contents row.seller ≡ shown (contents r.held.seller.code) → fields_in row ≡ fields_of message r
   unfolding fields_in fields_of told
   told_is z k m b s = rw (eq-eqb r.number 0 z, one, two, three, k, m, b, s)

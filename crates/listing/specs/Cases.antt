@@ -10,6 +10,6 @@ use Rattle.listing.specs.Rows.{heading, printed_row}
 abbrev pub Answered : Type 0
 Answered =
     (heading ≡ bytes "MSG CODE LINE KIND MAST BUYR SELL\n")
-    × (printed_row 1 (record { number = 0; line = 0; trade = trade_of_b }) ≡ bytes "1 0 0 INST 0017 0017 0015\n")
-    × (printed_row 2 (record { number = 4; line = 2; trade = blank_trade }) ≡ bytes "2 4 2 - - - -\n")
-    × (printed_row 32768 (record { number = 0; line = 0; trade = blank_trade }) ≡ bytes "32768 0 0 INST - - -\n")
+    × (printed_row 1 (record { number = 0; line = 0; held = trade_of_b }) ≡ bytes "1 0 0 INST 0017 0017 0015\n")
+    × (printed_row 2 (record { number = 4; line = 2; held = blank_trade }) ≡ bytes "2 4 2 - - - -\n")
+    × (printed_row 32768 (record { number = 0; line = 0; held = blank_trade }) ≡ bytes "32768 0 0 INST - - -\n")

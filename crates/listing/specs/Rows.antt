@@ -8,7 +8,7 @@ use Rattle.digits.specs.Numerals.{digits}
 use Rattle.amount.specs.Amounts.{trimmed}
 use Rattle.trade.specs.declared.Trade.{Trade}
 use Rattle.values.specs.Values.{kind_word}
-use Rattle.mt515.specs.declared.Reading.{Reading}
+use Rattle.format.specs.declared.Reading.{Reading}
 
 -- fields with a blank between two, and LF behind the last
 unfoldable pub spaced : List (List ℕ) → List ℕ
@@ -45,8 +45,8 @@ unfoldable pub untold : List (List ℕ)
 untold = bytes "-" ∷ bytes "-" ∷ bytes "-" ∷ bytes "-" ∷ []
 
 -- the fields of a message: its place in the batch, counted from 1, and how it is read
-unfoldable pub fields_of : ℕ → Reading → List (List ℕ)
-fields_of message r = decimal message ∷ decimal r.number ∷ decimal r.line ∷ cond (eqb r.number 0) (told r.trade) untold
+unfoldable pub fields_of : ℕ → Reading Trade → List (List ℕ)
+fields_of message r = decimal message ∷ decimal r.number ∷ decimal r.line ∷ cond (eqb r.number 0) (told r.held) untold
 
-unfoldable pub printed_row : ℕ → Reading → List ℕ
+unfoldable pub printed_row : ℕ → Reading Trade → List ℕ
 printed_row message r = spaced (fields_of message r)

@@ -12,7 +12,7 @@ ghost use Rattle.fill.specs.Runs.{over_run, behind_run};
 ghost use Rattle.listing.specs.Rows.{spaced, parted, heading, decimal, shown, shown_text, fields_of, printed_row};
 ghost use Rattle.listing.specs.Composed.{fields_in, parts_of};
 
-use mt515::Reading;
+use format::Reading;
 use text::Text;
 use trade::Trade;
 
@@ -56,7 +56,7 @@ fn kind_text(trade: Trade) -> Text
 }
 
 // The fields of a row; of what is refused no field of the record.
-fn row_of(message: u64, reading: Reading) -> Row
+fn row_of(message: u64, reading: Reading<Trade>) -> Row
     ensures { fields_in result ≡ fields_of message reading }
 {
     let message = decimal(message);
@@ -78,10 +78,10 @@ fn row_of(message: u64, reading: Reading) -> Row
         message,
         number,
         line,
-        kind: kind_text(reading.trade),
-        mast: shown(reading.trade.mast),
-        buyer: shown(reading.trade.buyer.code),
-        seller: shown(reading.trade.seller.code),
+        kind: kind_text(reading.held),
+        mast: shown(reading.held.mast),
+        buyer: shown(reading.held.buyer.code),
+        seller: shown(reading.held.seller.code),
     }
 }
 
@@ -124,7 +124,7 @@ pub fn put_heading(buf: &mut [u8]) -> usize
 
 // Puts the row of a message, given its place in the batch and its reading, at the start of a lent buffer, as `text::put` puts a
 // part. A buffer of 147 bytes has room for every row.
-pub fn put_row(buf: &mut [u8], message: u64, reading: Reading) -> usize
+pub fn put_row(buf: &mut [u8], message: u64, reading: Reading<Trade>) -> usize
     ensures { (result ≡ after buf.old 0 (printed_row message reading)) × (buf.new ≡ placed buf.old 0 (printed_row message reading)) × (length (printed_row message reading) ≤ 147) }
 {
     let row = row_of(message, reading);

@@ -4,7 +4,6 @@ use Rattle.std.specs.Prelude.{ℕ, Bool, List}
 use Rattle.format.specs.Writing as AnyType
 use Rattle.trade.specs.declared.Trade.{Trade}
 use Rattle.values.specs.Mt515.{mt515}
-use Rattle.message.specs.declared.Writing.{Writing}
 
 -- the number of a write into a buffer of so many bytes, and the length that it answers
 abbrev pub write_number : Trade → ℕ → ℕ
@@ -12,10 +11,6 @@ write_number t room = AnyType.write_number mt515 t room
 
 abbrev pub write_length : Trade → ℕ → ℕ
 write_length t room = AnyType.write_length mt515 t room
-
--- its answer
-unfoldable pub writing_of : Trade → ℕ → Writing
-writing_of t room = record { number = write_number t room; length = write_length t room }
 
 -- and what the buffer holds afterwards
 abbrev pub written_over : Trade → List ℕ → List ℕ

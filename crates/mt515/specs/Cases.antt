@@ -5,9 +5,10 @@ use Rattle.text.specs.Bytes.{bytes}
 use Rattle.text.specs.Texts.{text_of}
 use Rattle.lines.specs.Verdicts.{refused}
 use Rattle.format.specs.Changes.{ended, without, with, behind, exchanged}
+use Rattle.format.specs.Reading.{verdict_of, read_of}
 use Rattle.trade.specs.declared.Trade.{Trade}
+use Rattle.values.specs.Mt515.{mt515}
 use Rattle.values.specs.Cases.{b as trade_of_b}
-use Rattle.mt515.specs.Reading.{verdict_of, read_of}
 
 unfoldable pub b : List String
 b =
@@ -79,14 +80,14 @@ AllUnlike (t ∷ ts) = Unlike t ts × AllUnlike ts
 
 -- the records of some rows
 abbrev trades : List (List String × ℕ × ℕ) → List Trade
-trades rows = map (λ row. (read_of (ended "\n" row.0)).trade) rows
+trades rows = map (λ row. (read_of mt515 (ended "\n" row.0)).held) rows
 
 -- each message gets the number and line beside it; B's record, with LF and with CR LF, is that of values' table; MAST 0017, 17 and
 -- 15 stay as they are written, and the three records are different; a par of `0017,` is 17
 abbrev pub Answered : Type 0
 Answered =
-    (map (λ row. verdict_of (ended "\n" row.0)) cases ≡ map (λ row. refused row.1 row.2) cases)
-    × (map (λ ending. read_of (ended ending b)) ("\n" ∷ "\r\n" ∷ []) ≡ replicate 2 (record { number = 0; line = 0; trade = trade_of_b }))
+    (map (λ row. verdict_of mt515 (ended "\n" row.0)) cases ≡ map (λ row. refused row.1 row.2) cases)
+    × (map (λ ending. read_of mt515 (ended ending b)) ("\n" ∷ "\r\n" ∷ []) ≡ replicate 2 (record { number = 0; line = 0; held = trade_of_b }))
     × (map (λ t. t.mast) (trades (take 3 cases)) ≡ map (λ s. text_of (bytes s)) ("0017" ∷ "17" ∷ "15" ∷ []))
     × AllUnlike (trades (take 3 cases))
     × (map (λ t. t.par) (trades (take 1 (drop 3 cases))) ≡ record { 0 = record { number = 17; decimals = 0 } } ∷ [])

@@ -3,11 +3,10 @@ use Rattle.std.specs.Prelude.{ℕ, ◌≡◌, List, [], ◌∷◌, map, length, 
 use Prim.Native.String.{String}
 use Rattle.lines.specs.Verdicts.{refused}
 use Rattle.format.specs.Changes.{ended, without, with, behind, exchanged}
-use Rattle.format.specs.Reading.{verdict_of}
+use Rattle.format.specs.Reading.{verdict_of, read_of}
 use Rattle.format.specs.Plain.{plain_of}
 use Rattle.pool_values.specs.Pool.{pool}
 use Rattle.pool_values.specs.Cases.{p as trade_of_p}
-use Rattle.pool.specs.Reading.{read_of}
 
 unfoldable pub p : List String
 p =
@@ -148,6 +147,6 @@ zeros = p ∷ money ":19A::SETT//USD0," p ∷ []
 -- table; P has 580 bytes, and its plain form 574
 pub record Answered : Type 0 where
   pub verdicts : map (λ row. verdict_of pool (ended "\n" row.0)) cases ≡ map (λ row. refused row.1 row.2) cases
-  pub endings : map (λ ending. read_of (ended ending p)) ("\n" ∷ "\r\n" ∷ []) ≡ replicate 2 (record { number = 0; line = 0; trade = trade_of_p })
-  pub tidied : map (λ m. read_of (ended "\r\n" m)) zeros ≡ replicate 2 (record { number = 0; line = 0; trade = trade_of_p })
+  pub endings : map (λ ending. read_of pool (ended ending p)) ("\n" ∷ "\r\n" ∷ []) ≡ replicate 2 (record { number = 0; line = 0; held = trade_of_p })
+  pub tidied : map (λ m. read_of pool (ended "\r\n" m)) zeros ≡ replicate 2 (record { number = 0; line = 0; held = trade_of_p })
   pub lengths : (length (ended "\r\n" p) ≡ 580) × (length (plain_of pool (ended "\r\n" p)) ≡ 574)

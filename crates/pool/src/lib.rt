@@ -1,163 +1,103 @@
-// The MT515 of pool netting: a message is read into its record, or refused with a number and a line.
+// The MT515 of pool netting as a message type: its bytes, the record of a trade, and its rules. What is done with a message of any type is done with
+// one of this.
 //
-// What is right stands in specs/Reading, over format's specs/Reading and pool_values' specs/Pool.
+// What is right stands in pool_values' specs/Pool.
 #![tactic(auto)]
 
-ghost use Rattle.std.specs.Prelude.{◌≡◌, replicate};
-ghost use Rattle.pool_trade.specs.Records.{blank_trade};
-ghost use Rattle.stretches.specs.Stretches.{slot_count, stretch_of};
-ghost use Rattle.sheets.specs.Trees.{table_of};
-ghost use Rattle.reader.specs.Take.{take_of};
-ghost use Rattle.pool_table.specs.Table.{header, slot_of};
-ghost use Rattle.pool_table.specs.Tree.{tree};
-ghost use Rattle.format.specs.Kept.{kept_of};
+mod writing;
+
+ghost use Rattle.std.specs.Prelude.{[], ◌∷◌};
+ghost use Rattle.message_type.specs.Shape.{shape_of};
 ghost use Rattle.pool_values.specs.Pool.{pool};
-ghost use Rattle.pool.specs.Reading.{judged, read_of, front_of};
+ghost use Rattle.pool_demands.proofs.Laws.{laws as trade-laws};
+ghost use Rattle.pool_demands.proofs.Asked.{is-readable, fields-are, amounts-are, is-outlined, is_short};
 
 use lines::Verdict;
-use measure::Width;
+use message_type::MessageType;
 use pool_trade::PoolTrade;
-use walk::Body;
 
-// What the desk gets back of a message: 0 and the record, or a number and a line with the blank record beside them.
-#[derive(Clone, Copy)]
-pub struct Reading {
-    pub number: u64,
-    pub line: usize,
-    pub trade: PoolTrade,
-}
+pub struct Pool;
 
-// What stands at the front of a text: how its piece is read, and how many bytes the piece has.
-#[derive(Clone, Copy)]
-pub struct Front {
-    pub reading: Reading,
-    pub length: usize,
-}
+impl MessageType for Pool {
+    type Record = PoolTrade;
 
-fn refuse(verdict: Verdict) -> Reading
-    ensures { result ≡ record { number = verdict.number; line = verdict.line; trade = blank_trade } }
-{
-    Reading {
-        number: verdict.number,
-        line: verdict.line,
-        trade: pool_trade::blank(),
-    }
-}
+    ghost shape = { shape_of pool };
 
-// The record of a message with nothing wrong up to its values, judged by its kind.
-fn judge<'a, 'b>(
-    message: &'a [u8],
-    starts: &'b [usize; stretches::SLOTS],
-    ends: &'b [usize; stretches::SLOTS],
-) -> Reading
-    ensures { result ≡ judged (stretch_of message.now starts.now ends.now) }
-{
-    let trade = pool_trade::gather(message, starts, ends);
-    let kinds = pool_kinds::kinds_pass(stretches::stretch(message, starts, ends, 2), trade);
-    if kinds.number != 0 {
-        return refuse(kinds);
-    }
-    Reading {
-        number: kinds.number,
-        line: kinds.line,
-        trade,
-    }
-}
+    ghost amounts = { 8 ∷ 9 ∷ 16 ∷ [] };
 
-// Takes a message into places that are all 0: at one look where that takes all of it, and else by the passes in their order.
-fn take(
-    message: &[u8],
-    starts: &mut [usize; stretches::SLOTS],
-    ends: &mut [usize; stretches::SLOTS],
-) -> Verdict
-    requires { (starts.old ≡ replicate slot_count 0) × (ends.old ≡ replicate slot_count 0) }
-    ensures { record { verdict = result; starts = starts.new; ends = ends.new } ≡ take_of (table_of tree) slot_of header message.now }
-{
-    let width = pool_table::glance(message, starts, ends);
-    if let Width::Is(n) = width {
-        if n == message.len() {
-            return Verdict::PASS;
-        }
-    }
-    let body = pool_table::take(message);
-    let begun = body.starts;
-    let ended = body.ends;
-    *starts = begun;
-    *ends = ended;
-    body.verdict
-}
+    ghost line = { 1 };
 
-// Reads a message by what was taken of it.
-fn read_taken<'a, 'b>(
-    message: &'a [u8],
-    verdict: Verdict,
-    starts: &'b [usize; stretches::SLOTS],
-    ends: &'b [usize; stretches::SLOTS],
-) -> Reading
-    requires { record { verdict = verdict; starts = starts.now; ends = ends.now } ≡ take_of (table_of tree) slot_of header message.now }
-    ensures { result ≡ read_of message.now }
-{
-    if verdict.number != 0 {
-        return refuse(verdict);
+    fn header() -> &'static [u8] {
+        pool_table::heads()
     }
-    judge(message, starts, ends)
-}
 
-// Reads a message.
-pub fn read(message: &[u8]) -> Reading
-    ensures { result ≡ read_of message.now }
-{
-    let mut starts = [0usize; stretches::SLOTS];
-    let mut ends = [0usize; stretches::SLOTS];
-    let verdict = take(message, &mut starts, &mut ends);
-    read_taken(message, verdict, &starts, &ends)
-}
+    fn rows() -> &'static [u8] {
+        pool_table::rows()
+    }
 
-// Reads the piece at the front of a text: at one look where that takes it, and else it is cut and goes by the passes.
-pub fn read_front(text: &[u8]) -> Front
-    ensures { result ≡ front_of text.now }
-{
-    let mut starts = [0usize; stretches::SLOTS];
-    let mut ends = [0usize; stretches::SLOTS];
-    let width = pool_table::glance(text, &mut starts, &mut ends);
-    if let Width::Is(n) = width {
-        return Front {
-            reading: judge(&text[..n], &starts, &ends),
-            length: n,
-        };
+    fn slots() -> &'static [u8] {
+        pool_table::forms()
     }
-    let end = pieces::piece_end(text, 0);
-    let piece = &text[..end];
-    let body = pool_table::take(piece);
-    let begun = body.starts;
-    let ended = body.ends;
-    Front {
-        reading: read_taken(piece, body.verdict, &begun, &ended),
-        length: end,
-    }
-}
 
-// Where the values of an accepted message stand, with the number and line of its reading; a refusal keeps no places.
-pub fn kept(message: &[u8]) -> Body
-    ensures { result ≡ kept_of pool message.now }
-{
-    let mut starts = [0usize; stretches::SLOTS];
-    let mut ends = [0usize; stretches::SLOTS];
-    let verdict = take(message, &mut starts, &mut ends);
-    let reading = read_taken(message, verdict, &starts, &ends);
-    if reading.number == 0 {
-        return Body {
-            verdict,
-            starts,
-            ends,
-        };
+    fn optional() -> &'static [u8] {
+        &pool_values::OPTIONAL
     }
-    Body {
-        verdict: Verdict {
-            number: reading.number,
-            line: reading.line,
-        },
-        starts: [0usize; stretches::SLOTS],
-        ends: [0usize; stretches::SLOTS],
+
+    fn amounts() -> &'static [u8] {
+        &[8, 9, 16]
     }
+
+    fn blank() -> PoolTrade {
+        pool_trade::blank()
+    }
+
+    fn gather<'a, 'b>(message: &'a [u8], starts: &'b [usize], ends: &'b [usize]) -> PoolTrade {
+        pool_trade::gather(message, starts, ends)
+    }
+
+    fn read_rules<'a, 'b>(
+        message: &'a [u8],
+        starts: &'b [usize],
+        ends: &'b [usize],
+        held: PoolTrade,
+    ) -> Verdict {
+        pool_kinds::kinds_pass(stretches::stretch(message, starts, ends, 2), held)
+    }
+
+    fn in_form(held: PoolTrade) -> bool {
+        pool_judge::form::in_form(held)
+    }
+
+    fn write_rules(held: PoolTrade) -> Verdict {
+        pool_judge::write_rules(held)
+    }
+
+    fn compose(buf: &mut [u8], held: PoolTrade) -> usize {
+        writing::compose(buf, held)
+    }
+
+    fn fields() -> usize {
+        pool_trade::NARRATIVE
+    }
+
+    // Of the narrative the first byte is not the field's.
+    fn beyond(slot: usize) -> usize {
+        if slot == pool_trade::NARRATIVE { 1 } else { 0 }
+    }
+
+    fn line() -> usize {
+        1
+    }
+
+    ghost readable = { is-readable };
+
+    ghost laws = { trade-laws };
+
+    ghost has_fields = { fields-are };
+
+    ghost has_amounts = { amounts-are };
+
+    ghost outlined = { is-outlined };
+
+    ghost short = { is_short };
 }

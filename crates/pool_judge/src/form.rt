@@ -67,7 +67,7 @@ fn header_form(trade: PoolTrade) -> bool
     password & sender
 }
 
-pub(crate) fn in_form(trade: PoolTrade) -> bool
+pub fn in_form(trade: PoolTrade) -> bool
     ensures { result ≡ in_form trade }
 {
     let general = general_form(trade);

@@ -1,28 +1,29 @@
-// Whether a record of a pool trade may be written: the numbers that it shows by itself.
+// Whether the fields of a pool trade are in form, and the rules that its record shows by itself.
 //
-// What is right stands in specs/Judging, and of a record in form in pool_values' specs/Writable.
+// What is right stands in pool_values' specs/Writable and specs/Pool; specs/Judging has the numbers that a record shows by itself.
 #![tactic(auto)]
 
-mod form;
+pub mod form;
 
 ghost use Rattle.std.specs.Prelude.{◌≡◌};
-ghost use Rattle.pool_judge.specs.Judging.{judge_of};
+ghost use Rattle.pool_values.specs.Pool.{pool};
 
+use lines::Verdict;
 use pool_trade::PoolTrade;
 
-// The number that a record shows by itself when it is to be written: the first of 18, 14, 15, 16, 17 and 20, or 0.
-pub fn judge(trade: PoolTrade) -> u64
-    ensures { result ≡ judge_of trade }
+// The rules of line 0 when a trade is written: the first of 14 to 17 that is broken, and then 20.
+pub fn write_rules(trade: PoolTrade) -> Verdict
+    ensures { result ≡ pool.write_rules trade }
 {
-    if !form::in_form(trade) {
-        return 18;
-    }
     let rules = pool_kinds::record_pass(trade);
     if rules.number != 0 {
-        return rules.number;
+        return rules;
     }
     if 31 < pool_values::narrative_length(trade) {
-        return 20;
+        return Verdict {
+            number: 20,
+            line: 0,
+        };
     }
-    0
+    Verdict::PASS
 }

@@ -2,18 +2,15 @@
 // specs/Table and specs/Tree.
 #![tactic(auto)]
 
-ghost use Rattle.std.specs.Prelude.{◌≡◌, length};
+ghost use Rattle.std.specs.Prelude.{◌≡◌};
+ghost use Rattle.forms.specs.Slots.{slot_at};
+ghost use Rattle.layout.specs.Rows.{rows_of};
 ghost use Rattle.sheets.specs.Trees.{table_of};
-ghost use Rattle.reader.specs.Take.{take_of};
-ghost use Rattle.glance.specs.Glance.{Says};
 ghost use Rattle.pool_table.specs.Table.{header, slot_of};
 ghost use Rattle.pool_table.specs.Tree.{tree};
 
-use measure::Width;
-use walk::Body;
-
 // Sixteen bytes a row: its kind, its slot, the length of its text, the text.
-pub const TABLE: [u8; 592] = *b"\x03\x00\x09:16R:GENL    \
+const TABLE: [u8; 592] = *b"\x03\x00\x09:16R:GENL    \
     \x01\x01\x0a:20C::SEME   \
     \x01\x02\x05:23G:        \
     \x01\x16\x0a:22F::TRTR   \
@@ -53,7 +50,7 @@ pub const TABLE: [u8; 592] = *b"\x03\x00\x09:16R:GENL    \
 
 // Twenty bytes a line: its form, least and most width, the length of its text, the text. The slots stand first, by number; from
 // the line 26 on the words that three of them take.
-pub const SLOTS: [u8; 720] = *b"\x00\x00\x00\x00                \
+const SLOTS: [u8; 720] = *b"\x00\x00\x00\x00                \
     \x01\x01\x10\x02//              \
     \x02\x1a\x02\x00                \
     \x01\x01\x10\x02//              \
@@ -91,30 +88,22 @@ pub const SLOTS: [u8; 720] = *b"\x00\x00\x00\x00                \
     \x00\x00\x00\x04CDRL            ";
 
 // The slots of the header's lines.
-pub const HEADER: [u8; 4] = [20, 21, 24, 25];
+const HEADER: [u8; 4] = [20, 21, 24, 25];
 
-// Takes a pool message up to its values: the verdict of 1 to 12, and where the value of each slot begins and ends.
-pub fn take(message: &[u8]) -> Body
-    ensures { result ≡ take_of (table_of tree) slot_of header message.now }
+pub fn heads() -> &'static [u8]
+    ensures { result.now ≡ header }
 {
-    reader::take(message, &HEADER, &TABLE, &SLOTS)
+    &HEADER
 }
 
-// Takes the pool message at the front of a text at one look: how many bytes it has, and where the value of each slot begins and ends; or
-// nothing is told.
-pub fn glance(
-    text: &[u8],
-    starts: &mut [usize; stretches::SLOTS],
-    ends: &mut [usize; stretches::SLOTS],
-) -> Width
-    ensures { Says (table_of tree) slot_of header text.now starts.old ends.old starts.new ends.new result }
+pub fn rows() -> &'static [u8]
+    ensures { rows_of result.now ≡ table_of tree }
 {
-    glance::glance(text, &HEADER, &TABLE, &SLOTS, starts, ends)
+    &TABLE
 }
 
-// How long the fixed text of a slot is.
-pub fn fixed_length(slot: usize) -> usize
-    ensures { result ≡ length (slot_of slot).fixed }
+pub fn forms() -> &'static [u8]
+    ensures { slot_at result.now ≡ slot_of }
 {
-    forms::fixed_text(&SLOTS, slot).len()
+    &SLOTS
 }

@@ -6,7 +6,9 @@ use Rattle.trade.specs.Records.{blank_trade}
 use Rattle.trade.specs.declared.Period.{Period}
 use Rattle.trade.specs.declared.Trade.{Trade}
 use Rattle.format.specs.Writable.{hold}
-use Rattle.message.specs.Writing.{writing_of, written_over, writable}
+use Rattle.values.specs.Mt515.{mt515}
+use Rattle.message.specs.Writing.{written_over, writable}
+use Rattle.writing.specs.Writing.{writing_of}
 use Rattle.packed.specs.Packed.{texts, numbers, packed_of}
 use Rattle.unpacked.specs.Unpacked.{unpacked_of}
 
@@ -64,7 +66,7 @@ Apart = (t u : Trade) → writable t ≡ true → writable u ≡ true → packed
 abbrev pub Refused : Type 0
 Refused =
     (s buf : List ℕ) → (unpacked_of s).good ≡ false
-    → (writing_of (unpacked_of s).trade (length buf) ≡ record { number = 18; length = 0 }) × (written_over (unpacked_of s).trade buf ≡ buf)
+    → (writing_of mt515 (unpacked_of s).trade (length buf) ≡ record { number = 18; length = 0 }) × (written_over (unpacked_of s).trade buf ≡ buf)
 
 pub record Lossless : Type 0 where
   pub back : Back

@@ -7,12 +7,15 @@ mod codes;
 mod places;
 
 ghost use Rattle.std.specs.Prelude.{◌≡◌, length};
-ghost use Rattle.message.specs.Writing.{writing_of, written_over};
+ghost use Rattle.format.specs.Writing.{written_over};
+ghost use Rattle.values.specs.Mt515.{mt515};
+ghost use Rattle.writing.specs.Writing.{writing_of};
 ghost use Rattle.unpacked.specs.Unpacked.{trade_from, trade_in, unpacked_of};
 
 use amount::{Amount, Par, Price};
 use calendar::{Date, Moment, Time};
-use message::Writing;
+use mt515::Mt515;
+use writing::Writing;
 use text::Text;
 use trade::{Kind, Party, Period, Service, Trade};
 use typed::Side;
@@ -111,11 +114,11 @@ pub fn unpack(packed: &[u8; 375]) -> Unpacked
     answer(false, trade::blank())
 }
 
-// Writes the message of the record that 375 bytes are, as `message::write` does. Of bytes that are no record it is the blank
+// Writes the message of the record that 375 bytes are, as `writing::write` does. Of bytes that are no record it is the blank
 // one, which is refused with 18.
 pub fn write(packed: &[u8; 375], buf: &mut [u8]) -> Writing
-    ensures { (result ≡ writing_of (unpacked_of packed.now).trade (length buf.old)) × (buf.new ≡ written_over (unpacked_of packed.now).trade buf.old) }
+    ensures { (result ≡ writing_of mt515 (unpacked_of packed.now).trade (length buf.old)) × (buf.new ≡ written_over mt515 (unpacked_of packed.now).trade buf.old) }
 {
     let unpacked = unpack(packed);
-    message::write(unpacked.trade, buf)
+    writing::write::<Mt515>(unpacked.trade, buf)
 }

@@ -8,9 +8,10 @@
 ghost use Rattle.std.specs.Prelude.{◌≤◌, length};
 
 use amount::Amount;
-use mt515::Reading;
+use format::Reading;
+use mt515::Mt515;
 use text::Text;
-use trade::Kind;
+use trade::{Kind, Trade};
 
 // Prints a blank and a text; `-` for one that is absent.
 fn say(what: Text) {
@@ -60,14 +61,14 @@ fn say_kind(kind: Kind) {
     }
 }
 
-fn say_reading(reading: Reading) {
+fn say_reading(reading: Reading<Trade>) {
     say_number(reading.number);
     say_number(reading.line as u64);
     if reading.number != 0 {
         io::write_all(1, b" - - - - - -\n");
         return;
     }
-    let trade = reading.trade;
+    let trade = reading.held;
     let kind = trade.kind;
     say_kind(kind);
     say(trade.mast);
@@ -109,7 +110,7 @@ fn say_all(input: &[u8]) {
         let from = name.next;
         let next = next_name(input, from);
         say_name(&input[at..end]);
-        say_reading(mt515::read(&input[from..next]));
+        say_reading(reading::read::<Mt515>(&input[from..next]));
         at = next;
     }
 }

@@ -15,13 +15,13 @@ returns-then-reading-ne0 c = none-put _ (refused-parts _ c.if-reading-ne0.true) 
 pub returns-then-first-eq0 : goal.returns-then-first-eq0
 unfolding bytes
 returns-then-first-eq0 c =
-    let long : length c.args.reading.answer.reasons ≡ 10 = search rules in
+    let long : length c.args.reading.held.reasons ≡ 10 = search rules in
     let e = none_left _ long 32 0 (omega arith) _ c.reason_at-first.ensures c.if-first-eq0.true in
     none-put _ (none-parts _ c.if-reading-ne0.false e) _ _ c.put-then-first-eq0.ensures
 
 pub returns : goal.returns
 returns c =
-    let long : length c.args.reading.answer.reasons ≡ 10 = search rules in
+    let long : length c.args.reading.held.reasons ≡ 10 = search rules in
     let l : length c.reason_at-first.result.code.bytes ≡ 20 = search rules in
     let e = some_left _ long 32 0 (omega arith) _ c.reason_at-first.ensures l c.if-first-eq0.false in
     rw (← some-parts c.args.reading c.if-reading-ne0.false e) c.put_codes.ensures

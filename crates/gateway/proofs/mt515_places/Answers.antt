@@ -11,8 +11,8 @@ overflow_cast-result c = let h = places-byte _ _ c.of-all.ensures in omega (arit
 pub returns : goal.returns
 returns c =
     let e = c.of-all.ensures in (
-      ap (λ (a : Outline). a.number) e,
-      ap (λ (a : Outline). a.starts) e,
-      ap (λ (a : Outline). a.ends) e,
-      ap (λ (a : Outline). a.line) e,
+      ap (λ (a : Outline 24). a.number) e,
+      ap (λ (a : Outline 24). a.starts) e,
+      ap (λ (a : Outline 24). a.ends) e,
+      ap (λ (a : Outline 24). a.line) e,
     )

@@ -1,7 +1,8 @@
 -- `gateway::mt515_read` meets its contract: the answer of `mt515::read`, handed out. Assumes nothing.
 use native.Mathlib.Omega.{arith}
 use mathlib.Core.Path.{ap, ◌∙◌}
-use Rattle.mt515.specs.declared.Reading.{Reading}
+use Rattle.trade.specs.declared.Trade.{Trade}
+use Rattle.format.specs.declared.Reading.{Reading}
 use Rattle.packed.specs.Packed.{packed_of}
 use Rattle.gateway.proofs.Handing.{read_byte}
 use Rattle.gateway.proofs.mt515_read.Goals as goal
@@ -12,4 +13,4 @@ overflow_cast-result c = let h = read_byte _ _ c.read-reading.ensures in omega (
 pub returns : goal.returns
 returns c =
     let e = c.read-reading.ensures in
-    (ap (λ (r : Reading). r.number) e, c.pack.ensures ∙ ap (λ (r : Reading). packed_of r.trade) e, ap (λ (r : Reading). r.line) e)
+    (ap (λ (r : Reading Trade). r.number) e, c.pack.ensures ∙ ap (λ (r : Reading Trade). packed_of r.held) e, ap (λ (r : Reading Trade). r.line) e)

@@ -1,7 +1,7 @@
 -- `gateway::mt515_write` meets its contract: the answer of `unpacked::write`, handed out. Assumes nothing.
 use native.Mathlib.Omega.{arith}
 use mathlib.Core.Path.{ap}
-use Rattle.message.specs.declared.Writing.{Writing}
+use Rattle.writing.specs.declared.Writing.{Writing}
 use Rattle.gateway.proofs.Handing.{write_byte}
 use Rattle.gateway.proofs.mt515_write.Goals as goal
 

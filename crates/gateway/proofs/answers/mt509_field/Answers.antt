@@ -1,7 +1,7 @@
 -- `gateway::answers::mt509_field` meets its contract: the answer of `answer_field::place`, handed out. Assumes nothing.
 use native.Mathlib.Omega.{arith}
 use mathlib.Core.Path.{ap}
-use Rattle.answer_field.specs.declared.Stretch.{Stretch}
+use Rattle.field.specs.declared.Stretch.{Stretch}
 use Rattle.gateway.proofs.AnswerHanding.{field-byte}
 use Rattle.gateway.proofs.answers.mt509_field.Goals as goal
 

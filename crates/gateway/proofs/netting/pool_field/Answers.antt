@@ -1,7 +1,7 @@
 -- `gateway::netting::pool_field` meets its contract: the answer of `pool_field::place`, handed out. Assumes nothing.
 use native.Mathlib.Omega.{arith}
 use mathlib.Core.Path.{ap}
-use Rattle.pool_field.specs.declared.Stretch.{Stretch}
+use Rattle.field.specs.declared.Stretch.{Stretch}
 use Rattle.gateway.proofs.PoolHanding.{field-byte}
 use Rattle.gateway.proofs.netting.pool_field.Goals as goal
 

@@ -1,7 +1,7 @@
 -- `gateway::netting::pool_read` meets its contract: the answer of `pool_outline::of`, handed out. Assumes nothing.
 use native.Mathlib.Omega.{arith}
 use mathlib.Core.Path.{ap}
-use Rattle.pool_outline.specs.declared.Outline.{Outline}
+use Rattle.outline.specs.declared.Outline.{Outline}
 use Rattle.gateway.proofs.PoolHanding.{read_byte}
 use Rattle.gateway.proofs.netting.pool_read.Goals as goal
 
@@ -11,8 +11,8 @@ overflow_cast-result c = let h = read_byte _ _ c.of-all.ensures in omega (arith,
 pub returns : goal.returns
 returns c =
     let e = c.of-all.ensures in (
-      ap (λ (a : Outline). a.number) e,
-      ap (λ (a : Outline). a.starts) e,
-      ap (λ (a : Outline). a.ends) e,
-      ap (λ (a : Outline). a.line) e,
+      ap (λ (a : Outline 22). a.number) e,
+      ap (λ (a : Outline 22). a.starts) e,
+      ap (λ (a : Outline 22). a.ends) e,
+      ap (λ (a : Outline 22). a.line) e,
     )

@@ -1,0 +1,16 @@
+-- The slots that are lent as optional are those that the layout makes so, by computation.
+-- Assumes nothing.
+use mathlib.Core.Path.{◌≡◌, refl, fun_ext}
+use Rattle.sheets.specs.Slots.{field_slots, own_slots, member_slots, slots_of, first_slots, must_slots}
+use Rattle.sheets.specs.Sheets.{has}
+use Rattle.fill.specs.Filling.{is_any}
+use Rattle.format.specs.Format.{optional}
+use Rattle.format.proofs.Tests.{every}
+use Rattle.writer.proofs.Messages.{optional_in, optional-are}
+use Rattle.pool_table.specs.Tree.{general, security, details, tree}
+use Rattle.pool_values.specs.Pool.{pool}
+use Rattle.pool_values.specs.declared.TheConstants.{OPTIONAL}
+
+pub optional-is : is_any OPTIONAL ≡ optional pool
+unfolding tree general security details every optional_in optional slots_of member_slots own_slots field_slots must_slots first_slots has
+optional-is = fun_ext (optional-are pool OPTIONAL refl)

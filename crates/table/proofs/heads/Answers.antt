@@ -1,0 +1,8 @@
+-- `table::heads` meets its contract, by computation. Assumes nothing.
+use mathlib.Core.Path.{refl}
+use Rattle.table.specs.Table.{header}
+use Rattle.table.proofs.heads.Goals as goal
+
+pub returns : goal.returns
+unfolding header
+returns c = refl
