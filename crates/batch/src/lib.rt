@@ -1,57 +1,59 @@
-// A batch, message by message: from a position the piece that begins there is read, and the position behind it is answered.
+// A batch of messages of any type, message by message: from a position the piece that begins there is read, and the position behind it is
+// answered.
 //
 // What is right stands in specs/Batch.
 #![tactic(auto)]
 
 ghost use Rattle.std.specs.Prelude.{◌≡◌};
+ghost use Rattle.message_type.specs.Shape.{of};
 ghost use Rattle.batch.specs.Batch.{blank_reading, next_of};
 
-use mt515::Reading;
+use format::Reading;
+use message_type::MessageType;
 use pieces::Turn;
 
 // What the desk gets back of a position: what stands there, how it is read, and the position to go on from.
 #[derive(Clone, Copy)]
-pub struct Answer {
+pub struct Found<H> {
     pub turn: Turn,
-    pub reading: Reading,
+    pub reading: Reading<H>,
     pub position: usize,
 }
 
 // What is said where no message stands.
-fn without_message(number: u64) -> Reading
-    ensures { result ≡ blank_reading number }
+fn without_message<T: MessageType>(number: u64) -> Reading<T::Record>
+    ensures { result ≡ blank_reading (of T.shape) number }
 {
     Reading {
         number,
         line: 0,
-        trade: trade::blank(),
+        held: T::blank(),
     }
 }
 
 // Takes the next message of a batch.
-pub fn next(batch: &[u8], position: usize) -> Answer
-    ensures { result ≡ next_of batch.now position }
+pub fn next<T: MessageType>(batch: &[u8], position: usize) -> Found<T::Record>
+    ensures { result ≡ next_of (of T.shape) batch.now position }
 {
-    if batch.len() < position {
-        return Answer {
+    match batch.get(position..) {
+        None => Found {
             turn: Turn::Past,
-            reading: without_message(21),
+            reading: without_message::<T>(21),
             position,
-        };
-    }
-    if position == batch.len() {
-        return Answer {
+        },
+        Some([]) => Found {
             turn: Turn::Done,
-            reading: without_message(0),
+            reading: without_message::<T>(0),
             position,
-        };
-    }
-    let front = mt515::read_front(&batch[position..]);
-    let reading = front.reading;
-    let end = position + front.length;
-    Answer {
-        turn: Turn::Message,
-        reading,
-        position: end,
+        },
+        Some(left) => {
+            let front = reading::read_front::<T>(left);
+            let end = position + front.length;
+            Found {
+                turn: Turn::Message,
+                reading: front.reading,
+                position: end,
+            }
+        }
     }
 }

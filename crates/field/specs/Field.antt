@@ -1,22 +1,14 @@
--- Document 01, "One field", of the MT515: for a slot named by the caller the answer is that stretch of the caller's own message, the value
--- after the fixed text (for 70E, what follows `GSCC/`). A refused message, a number that names no slot, or a slot it does not have gives
--- the empty stretch at the message's start. Slots are numbered as in table's `specs/Table`: 21 have a value. It is what format's
--- specs/Field says of any message type.
+-- Document 01, "One field", of a message of any type: for a slot named by the caller the answer is that stretch of the caller's own message,
+-- the value after the fixed text. A refused message, a number that names no slot, or a slot it does not have gives the empty stretch at
+-- the message's start. It is what format's specs/Field says.
 use Rattle.std.specs.Prelude.{ℕ, List}
-use Rattle.format.specs.Field as AnyType
-use Rattle.values.specs.Mt515.{mt515}
-use Rattle.mt515.specs.Reading.{read_of}
+use Rattle.format.specs.Format.{Format}
+use Rattle.format.specs.Reading.{read_of}
+use Rattle.format.specs.Field.{span_in}
 use Rattle.field.specs.declared.Stretch.{Stretch}
 
--- the bytes in front of the value: the fixed text, and behind 70E's the one that ends `GSCC/`
-abbrev pub front_of : ℕ → ℕ
-front_of slot = AnyType.front_of mt515 slot
-
-abbrev pub field_of : List ℕ → ℕ → List ℕ
-field_of m slot = AnyType.field_of mt515 m slot
-
 -- the read's number, and where the field stands
-unfoldable pub place_of : List ℕ → ℕ → Stretch
-place_of m slot =
-    let span = AnyType.span_in mt515 m slot in
-    record { number = (read_of m).number; offset = span.offset; count = span.count }
+unfoldable pub place_of : Format → List ℕ → ℕ → Stretch
+place_of F m slot =
+    let span = span_in F m slot in
+    record { number = (read_of F m).number; offset = span.offset; count = span.count }

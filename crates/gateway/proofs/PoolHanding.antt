@@ -7,8 +7,8 @@ use Rattle.field.specs.Field.{place_of}
 use Rattle.field.specs.declared.Stretch.{Stretch}
 use Rattle.outline.specs.Outline.{outline_of}
 use Rattle.outline.specs.declared.Outline.{Outline}
-use Rattle.asking.specs.Asking.{asking_of}
-use Rattle.asking.specs.declared.Asking.{Asking}
+use Rattle.plain.specs.Asking.{asking_of}
+use Rattle.plain.specs.declared.Asking.{Asking}
 use Rattle.batch.specs.Batch.{next_of}
 use Rattle.batch.specs.declared.Found.{Found}
 use Rattle.pool_values.specs.Pool.{pool}

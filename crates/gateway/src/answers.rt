@@ -4,7 +4,7 @@ ghost use Rattle.format.specs.Asking.{asked_over};
 ghost use Rattle.batch.specs.Batch.{next_of};
 ghost use Rattle.field.specs.Field.{place_of};
 ghost use Rattle.outline.specs.Outline.{outline_of};
-ghost use Rattle.asking.specs.Asking.{asking_of};
+ghost use Rattle.plain.specs.Asking.{asking_of};
 ghost use Rattle.answer_values.specs.Mt509.{mt509};
 ghost use Rattle.gateway.specs.Numbers.{turn_number};
 
@@ -56,7 +56,7 @@ pub extern "C" fn mt509_plain(
 ) -> u8
     ensures { (result ≡ (asking_of mt509 message.now (length out.old)).number) × (line.new ≡ (asking_of mt509 message.now (length out.old)).line) × (written.new ≡ (asking_of mt509 message.now (length out.old)).length) × (out.new ≡ asked_over mt509 message.now out.old) }
 {
-    let asking = asking::plain::<Mt509>(message, out);
+    let asking = plain::plain::<Mt509>(message, out);
     *line = asking.line;
     *written = asking.length;
     asking.number as u8

@@ -15,7 +15,7 @@ ghost use Rattle.batch.specs.Batch.{next_of};
 ghost use Rattle.field.specs.Field.{place_of};
 ghost use Rattle.outline.specs.Outline.{outline_of};
 ghost use Rattle.writing.specs.Writing.{writing_of};
-ghost use Rattle.asking.specs.Asking.{asking_of};
+ghost use Rattle.plain.specs.Asking.{asking_of};
 ghost use Rattle.values.specs.Mt515.{mt515};
 ghost use Rattle.packed.specs.Packed.{packed_of};
 ghost use Rattle.unpacked.specs.Unpacked.{unpacked_of};
@@ -80,7 +80,7 @@ pub extern "C" fn mt515_plain(
 ) -> u8
     ensures { (result ≡ (asking_of mt515 message.now (length out.old)).number) × (line.new ≡ (asking_of mt515 message.now (length out.old)).line) × (written.new ≡ (asking_of mt515 message.now (length out.old)).length) × (out.new ≡ asked_over mt515 message.now out.old) }
 {
-    let asking = asking::plain::<Mt515>(message, out);
+    let asking = plain::plain::<Mt515>(message, out);
     *line = asking.line;
     *written = asking.length;
     asking.number as u8

@@ -4,7 +4,7 @@ ghost use Rattle.format.specs.Asking.{asked_over};
 ghost use Rattle.batch.specs.Batch.{next_of};
 ghost use Rattle.field.specs.Field.{place_of};
 ghost use Rattle.outline.specs.Outline.{outline_of};
-ghost use Rattle.asking.specs.Asking.{asking_of};
+ghost use Rattle.plain.specs.Asking.{asking_of};
 ghost use Rattle.pool_values.specs.Pool.{pool};
 ghost use Rattle.gateway.specs.Numbers.{turn_number};
 
@@ -56,7 +56,7 @@ pub extern "C" fn pool_plain(
 ) -> u8
     ensures { (result ≡ (asking_of pool message.now (length out.old)).number) × (line.new ≡ (asking_of pool message.now (length out.old)).line) × (written.new ≡ (asking_of pool message.now (length out.old)).length) × (out.new ≡ asked_over pool message.now out.old) }
 {
-    let asking = asking::plain::<Pool>(message, out);
+    let asking = plain::plain::<Pool>(message, out);
     *line = asking.line;
     *written = asking.length;
     asking.number as u8

@@ -1,2 +1,7 @@
 pub mod Optional
 pub mod Cases
+pub mod Finding
+pub mod FieldCases
+pub mod Standing
+pub mod Cutting
+pub mod WritingCases

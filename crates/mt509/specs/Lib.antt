@@ -1,1 +1,6 @@
 pub mod Cases
+pub mod Finding
+pub mod FieldCases
+pub mod Standing
+pub mod Cutting
+pub mod WritingCases

@@ -1,53 +1,88 @@
--- The plain form of an MT515: the price and the par are its amounts, so that the message's own stretches with these moved in are put;
--- and the answers of asking for it. It is what format's proofs/Moved and writer's proofs/Plain say of any message type.
+-- The answers of asking for a plain form, put together: what format's proofs/Asking and proofs/Moved and writer's proofs/Plain say of any
+-- message type.
 -- Assumes nothing.
-use Prim.Native.Nat.{ℕ, ◌≤◌}
-use mathlib.Core.Path.{◌≡◌, refl}
-use mathlib.Core.List.{List, [], ◌∷◌}
-use lib.ListN.{length}
-use Rattle.lines.specs.declared.Verdict.{Verdict}
-use Rattle.stretches.specs.Stretches.{slot_count, stretch_of}
-use Rattle.sheets.specs.Slots.{field_slots, own_slots, member_slots, slots_of}
-use Rattle.sheets.specs.Sheets.{has}
+use Prim.Native.Nat.{ℕ, ◌≤◌, ◌<◌}
+use mathlib.Core.Path.{◌≡◌, sym, ap, ◌∙◌}
+use mathlib.Core.Bool.{Bool}
+use mathlib.Core.List.{List}
+use native.Mathlib.Omega.{arith}
+use lib.ListN.{length, take, replicate}
+use Rattle.text.specs.Copy.{placed}
+use Rattle.forms.specs.Forms.{Slot}
+use Rattle.forms.specs.Slots.{slot_at}
+use Rattle.layout.specs.Rows.{rows_of}
+use Rattle.sheets.specs.Trees.{table_of}
 use Rattle.walk.specs.declared.Body.{Body}
-use Rattle.fill.proofs.Runs.{Put, Run}
-use Rattle.writer.specs.Parts.{parts_for}
-use Rattle.writer.proofs.Plain.{put-moved}
-use Rattle.format.proofs.Tests.{every, all_below, is_amount_form}
-use Rattle.format.proofs.Laws.{every_slot}
-use Rattle.format.proofs.Asking.{Asked}
-use Rattle.format.proofs.Taken.{accepted}
-use Rattle.format.proofs.Lent.{Amounts}
-use Rattle.format.proofs.Moved.{none-else, Moves, onto, movable}
-use Rattle.table.specs.Table.{header, slots, slot_of}
-use Rattle.table.specs.Tree.{general, pool, details, tree}
-use Rattle.values.specs.Mt515.{mt515}
-use Rattle.values.specs.Values.{values, value_of}
-use Rattle.values.proofs.Laid.{layout}
-use Rattle.mt515.specs.Reading.{verdict_of, kept_of}
-use Rattle.mt515.proofs.Chain.{readable}
-use Rattle.message.specs.Plain.{plain_of}
-use Rattle.demands.proofs.Laws.{laws}
-use Rattle.plain.specs.Asking.{asking_of, asked_over}
+use Rattle.fill.proofs.Runs.{Put, measured, in-front}
+use Rattle.fill.specs.Filling.{Lent, is_any, value_at}
+use Rattle.writer.specs.Parts.{message_parts, parts_for}
+use Rattle.writer.proofs.Messages.{parts_are}
+use Rattle.writer.proofs.Writes.{fits_in}
+use Rattle.writer.proofs.Plain as Plain
+use Rattle.format.specs.Format.{Format, optional}
+use Rattle.format.specs.Reading.{verdict_of}
+use Rattle.format.specs.Kept.{kept_of}
+use Rattle.format.specs.Plain.{plain_of}
+use Rattle.format.specs.Asking.{asked_over}
+use Rattle.format.proofs.Laws.{Laws}
+use Rattle.format.proofs.Chain.{Readable}
+use Rattle.format.proofs.Asking.{Asked, turned-away, plain-most}
+use Rattle.format.proofs.Taken.{accepted, kept-refused, kept-accepted}
+use Rattle.plain.specs.Asking.{asking_of}
 use Rattle.plain.specs.declared.Asking.{Asking}
 
--- an answer, put together
-pub whole : (m buf : List ℕ) {v : Verdict} {n : ℕ} {now : List ℕ} → Asked mt515 m buf v n now
-    → (◌≡◌ {A = Asking} (record { number = v.number; line = v.line; length = n }) (asking_of m (length buf))) × (now ≡ asked_over m buf)
-unfolding asking_of
-whole m buf (a, b, c) = (rw (a, b), c)
+-- ---- what is lent
 
--- the slots of the amounts, in the order that they are moved in
-abbrev moved : List ℕ
-moved = 9 ∷ 18 ∷ []
+module _ (F : Format) where
+  -- bytes that are the type's
+  pub parts-lent : (l : Lent) (rows : List ℕ) {heads : List ℕ} → heads ≡ F.header → rows_of rows ≡ table_of F.tree
+      → slot_at l.slots ≡ F.slot_of → is_any l.optional ≡ optional F → message_parts l heads rows ≡ parts_for F (value_at l)
+  parts-lent l rows h r s o =
+      rw h (parts_are F l rows r (λ k. ap (λ (of : ℕ → Slot). of k) s) (λ k. ap (λ (may : ℕ → Bool). may k) o))
 
-amounts : Amounts mt515 (onto moved [])
-unfolding onto every_slot slots_of member_slots own_slots field_slots header tree general pool details has every all_below is_amount_form slot_of slots values value_of
-amounts = record { placed = readable.placed; slots = refl; forms = refl; none = λ t. none-else mt515 (values t) refl }
+-- ---- what is answered
 
--- the message's stretches, with the price's moved in and then the par's, are put
-pub put-plain : (m : List ℕ) → (verdict_of m).number ≡ 0 → (r : Body) → r ≡ kept_of m → length r.starts ≡ slot_count → length r.ends ≡ slot_count
-    → {starts ends : List ℕ} → Moves m moved r.starts r.ends starts ends
-    → (buf : List ℕ) {n : ℕ} {now : List ℕ} → Run buf 0 (parts_for mt515 (stretch_of m starts ends)) n now → length (plain_of m) ≤ length buf → Put buf 0 (plain_of m) n now
-unfolding movable has
-put-plain m z = put-moved mt515 layout laws m (accepted mt515 m z) moved refl amounts
+module _ (F : Format) (R : Readable F) (m : List ℕ) where
+  -- what asking answers, and what its buffer holds then
+  abbrev Answered : List ℕ → Asking → List ℕ → Type 0
+  Answered buf a now = (a ≡ asking_of F m (length buf)) × (now ≡ asked_over F m buf)
+
+  answered : (buf : List ℕ) {number line n : ℕ} {now : List ℕ} → Asked F m buf (record { number = number; line = line }) n now
+      → Answered buf (record { number = number; line = line; length = n }) now
+  unfolding asking_of
+  answered buf (a, b, c) = (rw (← a, ← b), c)
+
+  module _ {r : Body} (is : r ≡ kept_of F m) where
+    pub refused : (buf : List ℕ) → (r.verdict.number ≡ 0 → ⊥)
+        → Answered buf (record { number = r.verdict.number; line = r.verdict.line; length = 0 }) buf
+    refused buf h = answered buf (turned-away F m buf r.verdict (kept-refused F m r is R.layout.good h) h)
+
+    -- no plain form of an accepted message is longer than the longest of all
+    module _ (W : Laws F) (short : F.longest ≤ 1476) (z : r.verdict.number ≡ 0) where
+      pub good : (verdict_of F m).number ≡ 0
+      good = kept-accepted F m r is z
+
+      pub most : length (plain_of F m) ≤ 1476
+      most = omega (arith, plain-most F R.layout W m (accepted F m good), short)
+
+      -- so that it was composed whole
+      module _ {n : ℕ} {now : List ℕ} (put : Put (replicate {A = ℕ} 1476 0) 0 (plain_of F m) n now) where
+        long : n ≡ length (plain_of F m)
+        long = measured _ _ put.0 most
+
+        front : take n now ≡ plain_of F m
+        front = in-front _ _ put most
+
+        pub within : n ≤ length now
+        within = fits_in _ _ put most
+
+        pub whole : n ≡ length (take n now)
+        whole = long ∙ sym (ap length front)
+
+        module _ (buf : List ℕ) where
+          pub no-room : length buf < n → Answered buf (record { number = 19; line = 0; length = 0 }) buf
+          no-room h = answered buf (Plain.no_room F R.layout W m (accepted F m good) buf n long h)
+
+          pub written : n ≤ length buf → {then : List ℕ} → then ≡ placed buf 0 (take n now)
+              → Answered buf (record { number = 0; line = 0; length = n }) then
+          written h e = answered buf (Plain.written F R.layout W m (accepted F m good) buf n long h _ (e ∙ rw front))

@@ -1,1 +1,5 @@
 pub mod Cases
+pub mod Finding
+pub mod FieldCases
+pub mod Standing
+pub mod Cutting

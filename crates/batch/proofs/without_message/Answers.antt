@@ -4,4 +4,4 @@ use Rattle.batch.proofs.without_message.Goals as goal
 
 pub returns : goal.returns
 unfolding blank_reading
-returns c = rw c.blank.ensures
+returns g c = rw c.blank.ensures

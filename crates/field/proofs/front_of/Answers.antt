@@ -1,18 +1,12 @@
--- `field::front_of` meets its contract. Assumes nothing.
+-- `field::front_of` meets its contract: no fixed text is long. Assumes nothing.
 use native.Mathlib.Omega.{arith}
-use native.Mathlib.Nat.{add-zero}
-use borrow.Author.Tests.{eq-eqb, ne_eqb}
-use Rattle.table.proofs.Laws.{fixed-short}
+use Rattle.forms.proofs.Laws.{fixed-short}
 use Rattle.format.specs.Field as AnyType
 use Rattle.field.proofs.front_of.Goals as goal
 
 pub overflow_add-result : goal.overflow_add-result
-overflow_add-result c = omega (arith, c.fixed_length.ensures, fixed-short c.args.slot)
+overflow_add-result g c = let short = rw (← c.fixed_text.ensures) at (fixed-short c.slots.result.now c.args.slot) in omega (arith, short, c.beyond.ensures.1)
 
-pub returns-then-slot-eq-NARRATIVE : goal.returns-then-slot-eq-NARRATIVE
+pub returns : goal.returns
 unfolding AnyType.front_of
-returns-then-slot-eq-NARRATIVE c = rw (c.fixed_length.ensures, eq-eqb _ _ c.if-slot-eq-NARRATIVE.true)
-
-pub returns-else-slot-eq-NARRATIVE : goal.returns-else-slot-eq-NARRATIVE
-unfolding AnyType.front_of
-returns-else-slot-eq-NARRATIVE c = rw (c.fixed_length-else-slot-eq-NARRATIVE.ensures, ne_eqb _ _ c.if-slot-eq-NARRATIVE.false, add-zero)
+returns g c = rw (c.fixed_text.ensures, c.slots.ensures, c.beyond.ensures.0)

@@ -1,28 +1,27 @@
--- `field::place` meets its contract: a refused message, a number that names no slot, or a search. Assumes nothing.
-use mathlib.Core.Path.{refl, ◌∙◌}
-use Rattle.text.specs.Bytes.{bytes, parts}
-use Rattle.layout.specs.Rows.{row_of, key_of, first_row, rows_of}
-use Rattle.sheets.specs.Trees.{field_rows, member_rows, rows_in, table_of}
-use Rattle.table.specs.Tree.{general, pool, details, tree}
-use Rattle.format.proofs.Finding.{below-named, above-named, is-named, turned-away, unnamed, searched}
-use Rattle.values.specs.Mt515.{mt515}
-use Rattle.values.proofs.Laid.{layout}
-use Rattle.demands.proofs.Laws.{laws}
-use Rattle.field.proofs.Steps.{whole, number_is}
+-- `field::place` meets its contract: a refused message, a number that names no field, or a search. Assumes nothing.
+use mathlib.Core.Path.{sym, ap, ◌∙◌}
+use Rattle.format.specs.declared.Reading.{Reading}
+use Rattle.format.proofs.Finding.{turned-away, unnamed, searched}
+use Rattle.message_type.specs.Shape.{of}
+use Rattle.field.proofs.Steps.{whole}
 use Rattle.field.proofs.place.Goals as goal
 
 pub returns-then-reading-ne0 : goal.returns-then-reading-ne0
-returns-then-reading-ne0 c = c.nowhere.ensures ∙ whole _ _ (turned-away mt515 _ _ _ (number_is _ c.read-reading.ensures) c.if-reading-ne0.true)
+returns-then-reading-ne0 g c =
+    let F = of g.T.MessageType.shape in
+    c.nowhere.ensures ∙ whole F _ _ (turned-away F _ _ _ (ap (λ (r : Reading F.Held). r.number) c.read-reading.ensures) c.if-reading-ne0.true)
 
-pub returns-then-slot-lt1 : goal.returns-then-slot-lt1
-returns-then-slot-lt1 c = c.nowhere-then-slot-lt1.ensures ∙ whole _ _ (unnamed mt515 _ _ _ (number_is _ c.read-reading.ensures) c.if-reading-ne0.false (below-named 21 _ c.if-slot-lt1.true))
+pub returns-then-not-is_named : goal.returns-then-not-is_named
+returns-then-not-is_named g c =
+    let F = of g.T.MessageType.shape in
+    c.nowhere-then-not-is_named.ensures
+    ∙ whole F _ _
+    (unnamed F _ _ _ (ap (λ (r : Reading F.Held). r.number) c.read-reading.ensures) c.if-reading-ne0.false (sym c.if-not-is_named.ensures))
 
-pub returns-then-slot-gt-NARRATIVE : goal.returns-then-slot-gt-NARRATIVE
-returns-then-slot-gt-NARRATIVE c = c.nowhere-then-slot-gt-NARRATIVE.ensures ∙ whole _ _ (unnamed mt515 _ _ _ (number_is _ c.read-reading.ensures) c.if-reading-ne0.false (above-named 21 _ c.if-slot-gt-NARRATIVE.true))
-
--- the bytes that are lent are the table's, by computation
 pub returns : goal.returns
-unfolding bytes parts row_of key_of first_row rows_of table_of tree general pool details rows_in member_rows field_rows
-returns c =
-    whole _ _
-    (searched mt515 _ _ _ (number_is _ c.read-reading.ensures) c.if-reading-ne0.false layout laws (is-named 21 _ c.if-slot-lt1.false c.if-slot-gt-NARRATIVE.false) _ refl _ c.front_of.ensures _ c.find-found.ensures)
+returns g c =
+    let t = g.met.T.MessageType in
+    let F = of g.T.MessageType.shape in
+    whole F _ _
+    (searched F _ _ _ (ap (λ (r : Reading F.Held). r.number) c.read-reading.ensures) c.if-reading-ne0.false
+    t.readable.layout t.laws (sym c.if-not-is_named.ensures) _ c.rows.ensures _ c.front_of.ensures _ c.find-found.ensures)

@@ -1,87 +1,43 @@
--- `plain::plain` meets its contract: the reading refuses, or the plain form is composed in 822 bytes, which have room for it. Assumes nothing.
-use Prim.Native.Nat.{◌≤◌}
-use mathlib.Core.Path.{◌≡◌, sym, ap, ◌∙◌}
-use lib.ListN.{length, take}
-use Rattle.fill.proofs.Runs.{measured, in-front}
-use Rattle.writer.proofs.Writes.{fits_in}
-use Rattle.writer.proofs.Plain.{no_room, written}
-use Rattle.format.proofs.Asking.{turned-away, plain-most}
-use Rattle.format.proofs.Taken.{accepted, kept-refused, kept-accepted}
-use Rattle.values.specs.Mt515.{mt515}
-use Rattle.values.proofs.Laid.{layout}
-use Rattle.mt515.specs.Reading.{verdict_of}
-use Rattle.message.specs.Plain.{plain_of}
-use Rattle.demands.proofs.Laws.{laws}
-use Rattle.plain.proofs.Answers.{whole}
+-- `plain::plain` meets its contract: the reading refuses, or the plain form is composed in 1,476 bytes, which have room for it. Assumes
+-- nothing.
+use Rattle.message_type.specs.Shape.{of}
+use Rattle.plain.proofs.Answers.{refused, good, most, within, whole, no-room, written}
 use Rattle.plain.proofs.plain.Goals as goal
 
 pub returns-then-verdict-ne0 : goal.returns-then-verdict-ne0
-returns-then-verdict-ne0 c =
-    let kept = c.kept-body.ensures in
-    whole _ _ (turned-away mt515 _ _ _ (kept-refused mt515 _ _ kept layout.good c.if-verdict-ne0.true) c.if-verdict-ne0.true)
+returns-then-verdict-ne0 g c =
+    refused (of g.T.MessageType.shape) g.met.T.MessageType.readable _ c.kept-body.ensures _ c.if-verdict-ne0.true
 
 pub compose-length-requires : goal.compose-length-requires
-compose-length-requires c =
-    let good : (verdict_of c.args.message.now).number ≡ 0 =
-    kept-accepted mt515 _ _ c.kept-body.ensures c.if-verdict-ne0.false
-    in
-    let most : length (plain_of c.args.message.now) ≤ 822 =
-    plain-most mt515 layout laws _ (accepted mt515 _ good)
-    in
-    (c.kept-body.ensures, good, most)
+compose-length-requires g c =
+    let F = of g.T.MessageType.shape in
+    let t = g.met.T.MessageType in
+    let is = c.kept-body.ensures in
+    let z = c.if-verdict-ne0.false in
+    (is, good F t.readable _ is t.laws t.short z, most F t.readable _ is t.laws t.short z)
 
 pub returns-then-buf-length : goal.returns-then-buf-length
-returns-then-buf-length c =
-    let good : (verdict_of c.args.message.now).number ≡ 0 =
-    kept-accepted mt515 _ _ c.kept-body.ensures c.if-verdict-ne0.false
-    in
-    let most : length (plain_of c.args.message.now) ≤ 822 =
-    plain-most mt515 layout laws _ (accepted mt515 _ good)
-    in
-    let long : c.compose-length.result ≡ length (plain_of c.args.message.now) =
-    measured _ _ c.compose-length.ensures.0 most
-    in
-    whole _ _ (no_room mt515 layout laws _ (accepted mt515 _ good) _ _ long c.if-buf-length.true)
+returns-then-buf-length g c =
+    let F = of g.T.MessageType.shape in
+    let t = g.met.T.MessageType in
+    let z = c.if-verdict-ne0.false in
+    no-room F t.readable _ c.kept-body.ensures t.laws t.short z c.compose-length.ensures _ c.if-buf-length.true
 
 pub slice_bounds-out-end : goal.slice_bounds-out-end
-slice_bounds-out-end c =
-    let good : (verdict_of c.args.message.now).number ≡ 0 =
-    kept-accepted mt515 _ _ c.kept-body.ensures c.if-verdict-ne0.false
-    in
-    let most : length (plain_of c.args.message.now) ≤ 822 =
-    plain-most mt515 layout laws _ (accepted mt515 _ good)
-    in
-    fits_in _ _ c.compose-length.ensures most
+slice_bounds-out-end g c =
+    let F = of g.T.MessageType.shape in
+    let t = g.met.T.MessageType in
+    within F t.readable _ c.kept-body.ensures t.laws t.short c.if-verdict-ne0.false c.compose-length.ensures
 
 pub slice_bounds-put-end : goal.slice_bounds-put-end
-slice_bounds-put-end c =
-    let good : (verdict_of c.args.message.now).number ≡ 0 =
-    kept-accepted mt515 _ _ c.kept-body.ensures c.if-verdict-ne0.false
-    in
-    let most : length (plain_of c.args.message.now) ≤ 822 =
-    plain-most mt515 layout laws _ (accepted mt515 _ good)
-    in
-    let long : c.compose-length.result ≡ length (plain_of c.args.message.now) =
-    measured _ _ c.compose-length.ensures.0 most
-    in
-    let front : take c.compose-length.result c.compose-length.new.buf ≡ plain_of c.args.message.now =
-    in-front _ _ c.compose-length.ensures most
-    in
-    long ∙ sym (ap length front)
+slice_bounds-put-end g c =
+    let F = of g.T.MessageType.shape in
+    let t = g.met.T.MessageType in
+    whole F t.readable _ c.kept-body.ensures t.laws t.short c.if-verdict-ne0.false c.compose-length.ensures
 
 pub returns : goal.returns
-returns c =
-    let good : (verdict_of c.args.message.now).number ≡ 0 =
-    kept-accepted mt515 _ _ c.kept-body.ensures c.if-verdict-ne0.false
-    in
-    let most : length (plain_of c.args.message.now) ≤ 822 =
-    plain-most mt515 layout laws _ (accepted mt515 _ good)
-    in
-    let long : c.compose-length.result ≡ length (plain_of c.args.message.now) =
-    measured _ _ c.compose-length.ensures.0 most
-    in
-    let front : take c.compose-length.result c.compose-length.new.buf ≡ plain_of c.args.message.now =
-    in-front _ _ c.compose-length.ensures most
-    in
-    let y = accepted mt515 _ good in
-    whole _ _ (written mt515 layout laws _ y _ _ long c.if-buf-length.false _ (c.put.ensures.1 ∙ rw front))
+returns g c =
+    let F = of g.T.MessageType.shape in
+    let t = g.met.T.MessageType in
+    let z = c.if-verdict-ne0.false in
+    written F t.readable _ c.kept-body.ensures t.laws t.short z c.compose-length.ensures _ c.if-buf-length.false c.put.ensures.1

@@ -1,4 +1,0 @@
-pub mod Steps
-pub mod Finding
-pub mod Values
-pub mod Cases

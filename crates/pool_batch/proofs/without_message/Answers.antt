@@ -1,7 +1,0 @@
--- `pool_batch::without_message` meets its contract. Assumes nothing.
-use Rattle.pool_batch.specs.Batch.{blank_reading}
-use Rattle.pool_batch.proofs.without_message.Goals as goal
-
-pub returns : goal.returns
-unfolding blank_reading
-returns c = rw c.blank.ensures

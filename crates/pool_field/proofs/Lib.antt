@@ -1,4 +1,0 @@
-pub mod Values
-pub mod Steps
-pub mod Finding
-pub mod Cases
