@@ -19,6 +19,7 @@ use Rattle.amount.proofs.Trims.{trimmed-drop, noughts-length}
 use Rattle.trade.specs.declared.Kind.{Kind}
 use Rattle.values.specs.Values.{kind_word}
 use Rattle.values.proofs.Widths.{kind-four}
+use Rattle.trade.specs.declared.Trade.{Trade}
 use Rattle.format.specs.declared.Reading.{Reading}
 use Rattle.fill.proofs.Runs.{Put, Run, two, measured, in-front, length_run, whole}
 use Rattle.listing.specs.Rows.{spaced, decimal, shown, shown_text, told, untold, fields_of, printed_row}

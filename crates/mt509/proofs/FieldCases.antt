@@ -64,7 +64,7 @@ module _ (m : List ℕ) (z : (read_of mt509 m).number ≡ 0) where
 accepted : ((read_of mt509 (ended "\n" r)).number ≡ 0) × ((read_of mt509 (ended "\r\n" r)).number ≡ 0)
 accepted =
     let e = read-r.endings in
-    (ap (λ (x : Reading). x.number) (head-eq_of_cons-eq e), ap (λ (x : Reading). x.number) (head-eq_of_cons-eq (tail-eq_of_cons-eq e)))
+    (ap (λ (x : Reading Answer). x.number) (head-eq_of_cons-eq e), ap (λ (x : Reading Answer). x.number) (head-eq_of_cons-eq (tail-eq_of_cons-eq e)))
 
 values : map (λ (row : ℕ × String). field_in (ended "\n" r) row.0) fields ≡ map (λ (row : ℕ × String). bytes row.1) fields
 unfolding bytes begins same before parts is_between in_front cut_behind bare without_ending lines_of line_at with_taken fit next seek later_field tell move_of following walk taken_by chain lead_key repeated any_front goes_on strays stops bar_number has lacking reasons status general tree statuses slots slot_of body_of taken_in r ended fields no_line taken_for AnyType.front_of start_behind end_of line_in field_in
