@@ -1,60 +1,68 @@
--- Where the fields of an MT515 stand, by the places that its reading keeps: what format's proofs/Outline says of any message type.
+-- Where the fields stand, by the places that a reading keeps: what format's proofs/Outline says, and all numbers behind begin and end at 0.
 -- Assumes nothing.
-use Prim.Native.Nat.{ℕ}
+use Prim.Native.Nat.{ℕ, ◌+◌, ◌≤◌, ◌<◌}
 use mathlib.Core.Path.{◌≡◌, refl, ◌∙◌}
-use mathlib.Core.List.{List, [], ◌∷◌}
+use mathlib.Core.Bool.{Bool, true, false}
+use mathlib.Core.List.{List, map}
 use native.Mathlib.Omega.{arith}
-use lib.ListN.{replicate}
-use Rattle.text.specs.Bytes.{bytes}
-use Rattle.stretches.specs.Fields.{begun_for, starts_for, ends_for, starts_handed, ends_handed}
-use Rattle.sheets.specs.Slots.{field_slots, own_slots, member_slots, slots_of}
-use Rattle.sheets.proofs.Checks.{good_slot}
+use lib.Dec.{ltb}
+use lib.ListN.{get_or}
+use borrow.Author.Tests.{ne_eqb, le-ltb, ltb-true, ltb-false}
+use Rattle.text.specs.Classes.{is_between}
 use Rattle.walk.specs.declared.Body.{Body}
-use Rattle.format.specs.Outline.{numbers, begun_at, slot_for, starts_kept, ends_kept}
-use Rattle.format.proofs.Tests.{every}
-use Rattle.format.proofs.Laws.{every_slot}
-use Rattle.format.proofs.Outline as AnyType
-use Rattle.trade.specs.Records.{narrative_slot}
-use Rattle.table.specs.Table.{header, slots, slot_of}
-use Rattle.table.specs.Tree.{general, pool, details, tree}
-use Rattle.values.specs.Mt515.{mt515}
-use Rattle.values.proofs.Laid.{layout}
-use Rattle.mt515.specs.Reading.{kept_of, read_of}
-use Rattle.demands.proofs.Laws.{laws}
-use Rattle.field.proofs.Values.{fields}
-use Rattle.outline.specs.Outline.{sender_line, outline_of}
+use Rattle.format.specs.Format.{Format}
+use Rattle.format.specs.Kept.{kept_of}
+use Rattle.format.specs.Outline.{numbers, password_field, line_field, start_in, end_in, begun_at}
+use Rattle.format.proofs.Laws.{Layout, Laws}
+use Rattle.format.proofs.Field.{Fields, unnamed-none, no_span}
+use Rattle.format.proofs.Finding.{below-named, above-named}
+use Rattle.format.proofs.Outline.{Outlined, Handed, handed}
+use Rattle.outline.specs.Outline.{start_at, end_at, outline_of}
+use Rattle.outline.proofs.Slots.{own-slot, same-slot, no-slot}
 
--- what is asked of a message type, by computation
-pub outlined : AnyType.Outlined mt515 sender_line
-unfolding bytes good_slot every every_slot field_slots own_slots member_slots slots_of header slots slot_of general pool details tree
-outlined = record { placed = refl; is-line = omega arith; password-bare = refl; line-bare = refl; password-whole = refl; line-whole = refl }
+module _ (F : Format) (k : ℕ) (L : Layout F) (W : Laws F) (N : Fields F) (T : Outlined F k) (m : List ℕ) (b : Body) (is : b ≡ kept_of F m) where
+  abbrev kept : Handed F k m b
+  kept = handed F k L W N T m b is
 
--- ---- the slots that are lent are those of the fields, by computation
+  abbrev Both : ℕ → Type 0
+  Both f = (start_at F k b.starts b.ends f ≡ start_in F k m f) × (end_at F k b.ends f ≡ end_in F k m f)
 
-abbrev pub lent : List ℕ
-lent = 0 ∷ 1 ∷ 2 ∷ 3 ∷ 4 ∷ 5 ∷ 6 ∷ 7 ∷ 8 ∷ 9 ∷ 10 ∷ 11 ∷ 12 ∷ 13 ∷ 14 ∷ 15 ∷ 16 ∷ 17 ∷ 18 ∷ 19 ∷ 20 ∷ 21 ∷ 28 ∷ 29 ∷ []
+  below : (f : ℕ) → f < F.fields + 3 → Both f
+  unfolding start_at end_at
+  below f h = rw (← (same-slot F k f h)) (kept.each f h)
 
-abbrev blank : List ℕ
-blank = replicate {A = ℕ} 24 0
+  -- a number that names no field begins and ends at 0
+  unnamed : (f : ℕ) → is_between 1 F.fields f ≡ false → (f ≡ password_field F → ⊥) → (f ≡ line_field F → ⊥) → (start_in F k m f ≡ 0) × (end_in F k m f ≡ 0)
+  unfolding start_in end_in
+  unnamed f n p q =
+      let s = no_span F m f (unnamed-none F m f n) in
+      rw (ne_eqb f (password_field F) p, ne_eqb f (line_field F) q, s) (refl, refl)
 
-starts-are : (begun ended : List ℕ) → starts_handed narrative_slot begun ended lent blank ≡ starts_kept mt515 sender_line begun ended
-unfolding starts_handed starts_for begun_for starts_kept numbers slot_for begun_at header
-starts-are begun ended = refl
+  -- so slot 0, which is that of field 0, has no place
+  nought : (get_or b.starts 0 0 ≡ 0) × (get_or b.ends 0 0 ≡ 0)
+  unfolding start_at end_at begun_at
+  nought =
+      let s = own-slot F k 0 (omega arith) in
+      let u = unnamed 0 (below-named F.fields 0 (omega arith)) (λ e. omega arith) (λ e. omega arith) in
+      let o = below 0 (omega arith) in
+      let to : get_or b.ends 0 0 ≡ 0 = rw (← s) at o.1 ∙ u.1 in
+      (rw (← s, to, le-ltb (get_or b.starts 0 0) 0 (omega arith)) at o.0 ∙ u.0, to)
 
-ends-are : (ended : List ℕ) → ends_handed ended lent blank ≡ ends_kept mt515 sender_line ended
-unfolding ends_handed ends_for ends_kept numbers slot_for header
-ends-are ended = refl
+  behind : (f : ℕ) → F.fields + 3 ≤ f → Both f
+  unfolding start_at end_at begun_at
+  behind f h =
+      let s = no-slot F k f h in
+      let u = unnamed f (above-named F.fields f (omega arith)) (λ e. omega arith) (λ e. omega arith) in
+      rw (← s, nought.0, nought.1, u.0, u.1) (refl, refl)
 
--- what is handed out is right
-module _ (m : List ℕ) (b : Body) (is : b ≡ kept_of m) (starts ends : List ℕ) where
-  pub handed : starts ≡ starts_handed narrative_slot b.starts b.ends lent blank → ends ≡ ends_handed b.ends lent blank
-      → record { number = b.verdict.number; line = b.verdict.line; starts = starts; ends = ends } ≡ outline_of m
-  unfolding outline_of read_of
-  handed s e =
-      let h = AnyType.handed mt515 sender_line layout laws fields outlined m b is in
-      rw (
-        h.number,
-        h.line,
-        s ∙ starts-are b.starts b.ends ∙ AnyType.starts-handed mt515 sender_line m b h,
-        e ∙ ends-are b.ends ∙ AnyType.ends-handed mt515 sender_line m b h,
-      )
+  pub each : (f : ℕ) → Both f
+  each f = go (ltb f (F.fields + 3)) refl
+    where
+      go : (x : Bool) → ltb f (F.fields + 3) ≡ x → Both f
+      go true e = below f (ltb-true f (F.fields + 3) e)
+      go false e = behind f (ltb-false f (F.fields + 3) e)
+
+  pub whole : (n : ℕ) (starts ends : List ℕ) → starts ≡ map (start_in F k m) (numbers 0 n) → ends ≡ map (end_in F k m) (numbers 0 n)
+      → record { number = b.verdict.number; line = b.verdict.line; starts = starts; ends = ends } ≡ outline_of F k n m
+  unfolding outline_of
+  whole n starts ends s e = rw (kept.number, kept.line, s, e)

@@ -1,2 +1,4 @@
+pub mod Slots
+pub mod Made
 pub mod Keeping
 pub mod Standing

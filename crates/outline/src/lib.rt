@@ -1,48 +1,74 @@
-// All fields of a message in one answer: of each where its value begins and where it ends.
+// All fields of a message of any type in one answer: of each where its value begins and where it ends.
 //
-// What is right stands in specs/Outline.
+// What is right stands in specs/Outline, over format's specs/Outline.
 #![tactic(auto)]
 
 ghost use Rattle.std.specs.Prelude.{◌≡◌};
-ghost use Rattle.outline.specs.Outline.{outline_of};
+ghost use Rattle.message_type.specs.Shape.{of};
+ghost use Rattle.outline.specs.Outline.{slot_at, start_at, end_at, outline_of};
 
-// The fields are numbered below this: the slots 1 to 21, the password and the sender.
-pub const FIELDS: usize = 24;
-
-// Their slots.
-const SLOTS: [u8; FIELDS] =
-    *b"\x00\x01\x02\x03\x04\x05\x06\x07\x08\x09\x0a\x0b\x0c\x0d\x0e\x0f\x10\x11\x12\x13\x14\x15\x1c\x1d";
+use message_type::MessageType;
+use std::array;
+use walk::Body;
 
 // What the caller gets back of a message: the number and line of its reading, and of each field where it begins and ends.
 #[derive(Clone, Copy)]
-pub struct Outline {
+pub struct Outline<const N: usize> {
     pub number: u64,
     pub line: usize,
-    pub starts: [usize; FIELDS],
-    pub ends: [usize; FIELDS],
+    pub starts: [usize; N],
+    pub ends: [usize; N],
 }
 
-// Where all fields of a message stand, by the places that its reading kept.
-pub fn of(message: &[u8]) -> Outline
-    ensures { result ≡ outline_of message.now }
+// The slot of a field, which has the same number; behind the last field stand two of the header's lines, and all other numbers have slot 0,
+// which has no value.
+fn slot_of<T: MessageType>(field: usize) -> usize
+    ensures { result ≡ slot_at (of T.shape) T.line field }
 {
-    let body = mt515::kept(message);
-    let begun = body.starts;
-    let ended = body.ends;
-    let mut starts = [0usize; FIELDS];
-    let mut ends = [0usize; FIELDS];
-    stretches::hand_out(
-        &SLOTS,
-        trade::NARRATIVE,
-        &begun,
-        &ended,
-        &mut starts,
-        &mut ends,
-    );
+    let last = T::fields();
+    if field <= last {
+        return field;
+    }
+    let header = T::header();
+    let password = header[0] as usize;
+    let line = header[T::line()] as usize;
+    match field - last {
+        1 => password,
+        2 => line,
+        _ => 0,
+    }
+}
+
+// Where a field begins, by the places that a reading kept: of a value that is there the first bytes may not be the field's.
+fn start_of<T: MessageType>(body: &Body, field: usize) -> usize
+    ensures { result ≡ start_at (of T.shape) T.line body.now.starts body.now.ends field }
+{
+    let slot = slot_of::<T>(field);
+    let from = stretches::at(&body.starts, slot);
+    let to = stretches::at(&body.ends, slot);
+    if from < to {
+        from + T::beyond(field)
+    } else {
+        from
+    }
+}
+
+// Where it ends.
+fn end_of<T: MessageType>(body: &Body, field: usize) -> usize
+    ensures { result ≡ end_at (of T.shape) T.line body.now.ends field }
+{
+    stretches::at(&body.ends, slot_of::<T>(field))
+}
+
+// Where the fields below a number stand in a message, by the places that its reading kept.
+pub fn of<T: MessageType, const N: usize>(message: &[u8]) -> Outline<N>
+    ensures { result ≡ outline_of (of T.shape) T.line N message.now }
+{
+    let body = reading::kept::<T>(message);
     Outline {
         number: body.verdict.number,
         line: body.verdict.line,
-        starts,
-        ends,
+        starts: array::from_fn(|field| start_of::<T>(&body, field)),
+        ends: array::from_fn(|field| end_of::<T>(&body, field)),
     }
 }
