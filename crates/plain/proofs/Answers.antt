@@ -3,23 +3,15 @@
 -- Assumes nothing.
 use Prim.Native.Nat.{ℕ, ◌≤◌, ◌<◌}
 use mathlib.Core.Path.{◌≡◌, sym, ap, ◌∙◌}
-use mathlib.Core.Bool.{Bool}
 use mathlib.Core.List.{List}
 use native.Mathlib.Omega.{arith}
 use lib.ListN.{length, take, replicate}
 use Rattle.text.specs.Copy.{placed}
-use Rattle.forms.specs.Forms.{Slot}
-use Rattle.forms.specs.Slots.{slot_at}
-use Rattle.layout.specs.Rows.{rows_of}
-use Rattle.sheets.specs.Trees.{table_of}
 use Rattle.walk.specs.declared.Body.{Body}
 use Rattle.fill.proofs.Runs.{Put, measured, in-front}
-use Rattle.fill.specs.Filling.{Lent, is_any, value_at}
-use Rattle.writer.specs.Parts.{message_parts, parts_for}
-use Rattle.writer.proofs.Messages.{parts_are}
 use Rattle.writer.proofs.Writes.{fits_in}
 use Rattle.writer.proofs.Plain as Plain
-use Rattle.format.specs.Format.{Format, optional}
+use Rattle.format.specs.Format.{Format}
 use Rattle.format.specs.Reading.{verdict_of}
 use Rattle.format.specs.Kept.{kept_of}
 use Rattle.format.specs.Plain.{plain_of}
@@ -30,17 +22,6 @@ use Rattle.format.proofs.Asking.{Asked, turned-away, plain-most}
 use Rattle.format.proofs.Taken.{accepted, kept-refused, kept-accepted}
 use Rattle.plain.specs.Asking.{asking_of}
 use Rattle.plain.specs.declared.Asking.{Asking}
-
--- ---- what is lent
-
-module _ (F : Format) where
-  -- bytes that are the type's
-  pub parts-lent : (l : Lent) (rows : List ℕ) {heads : List ℕ} → heads ≡ F.header → rows_of rows ≡ table_of F.tree
-      → slot_at l.slots ≡ F.slot_of → is_any l.optional ≡ optional F → message_parts l heads rows ≡ parts_for F (value_at l)
-  parts-lent l rows h r s o =
-      rw h (parts_are F l rows r (λ k. ap (λ (of : ℕ → Slot). of k) s) (λ k. ap (λ (may : ℕ → Bool). may k) o))
-
--- ---- what is answered
 
 module _ (F : Format) (R : Readable F) (m : List ℕ) where
   -- what asking answers, and what its buffer holds then

@@ -66,3 +66,9 @@ module _ (F : Format) (l : Lent) (rows : List ℕ) (rows_are : rows_of rows ≡ 
       ∙ ap (λ (table : List Row). head ++ walk (behind_at l) (parts_at l) [] 0 table) rows_are
       ∙ ap (λ (behind : ℕ → List ℕ). head ++ walk behind (parts_at l) [] 0 (table_of F.tree)) (fun_ext behind-is)
       ∙ ap (λ (front : ℕ → List ℕ). head ++ walk (behind_in F (value_at l)) (λ s. front s ∷ value_at l s ∷ []) [] 0 (table_of F.tree)) (fun_ext front-is)
+
+-- the same of the header too, and of slots and optional ones as functions, as a message type tells of what it lends
+pub parts-lent : (F : Format) (l : Lent) (rows : List ℕ) {heads : List ℕ} → heads ≡ F.header → rows_of rows ≡ table_of F.tree
+    → slot_at l.slots ≡ F.slot_of → is_any l.optional ≡ optional F → message_parts l heads rows ≡ parts_for F (value_at l)
+parts-lent F l rows heads-are rows_are slots-are may-are =
+    rw heads-are (parts_are F l rows rows_are (λ s. ap (λ (of : ℕ → Slot). of s) slots-are) (λ s. ap (λ (may : ℕ → Bool). may s) may-are))
