@@ -4,7 +4,8 @@ use mathlib.Core.Path.{refl, sym, ap, ◌∙◌}
 use native.Mathlib.Omega.{arith}
 use Rattle.trade.specs.Records.{nobody, never, blank_trade}
 use Rattle.format.specs.Writable.{hold}
-use Rattle.message.proofs.Writes.{judged}
+use Rattle.values.specs.Mt515.{mt515}
+use Rattle.writing.proofs.Answers as Writing
 use Rattle.packed.specs.Packed.{at_most, texts, moment_packed, numbers}
 use Rattle.unpacked.specs.Unpacked.{unpacked_of}
 use Rattle.unpacked.specs.Back.{text_fits, period_fits, moment_fits, number_fits, has_room, Lossless}
@@ -23,6 +24,6 @@ lossless =
       apart = λ t u h k e. ap (λ (r : Unpacked). r.trade) (sym (unpacks t (writable-fits t h)) ∙ ap unpacked_of e ∙ unpacks u (writable-fits u k));
       refused = λ s buf g.
           let b = bad-blank s g in
-          let j = judged blank_trade buf 18 blank-judged (λ z. let w : ⊥ = omega arith in w) in
+          let j = Writing.refused mt515 blank_trade blank-judged buf (λ z. let w : ⊥ = omega arith in w) in
           rw b (sym j.0, sym j.1);
     }
