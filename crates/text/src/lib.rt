@@ -135,6 +135,7 @@ fn begins_by_halves(part: &[u8], key: &[u8]) -> bool
 }
 
 // The same with a key of eight bytes or more: a word at a time, and then its last eight bytes, of which some may be known.
+// An own loop, made for speed: the same over `as_chunks` is no faster.
 fn begins_by_words(part: &[u8], key: &[u8]) -> bool
     requires { (length key.now ≤ length part.now) × (8 ≤ length key.now) }
     ensures { result ≡ begins key.now part.now }
