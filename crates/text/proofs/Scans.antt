@@ -70,6 +70,13 @@ begins_zip (k ∷ key) (b ∷ part) h = ap (λ (t : Bool). eqb b k && t) (begins
 
 -- ---- the first byte of a kind
 
+-- its place, or the end where there is none
+pub place-is : (test : ℕ → Bool) (s : List ℕ) (p : Option ℕ) (r : ℕ) → p ≡ position test s → r ≡ unwrap_or p (length s) → r ≡ position_or_len test s
+place-is test s p r e f = f ∙ rw e (go (position_or_len test s) (length s) (prefix_len-le-length _ s))
+  where
+    go : (n m : ℕ) → n ≤ m → unwrap_or (cond (nat_lt n m) (Some n) None) m ≡ n
+    go n m h = grind (arith, nat_tests)
+
 before-position : (byte : ℕ) (s : List ℕ) → length (before byte s) ≡ position_or_len (λ x. eqb x byte) s
 unfolding before
 before-position byte = is_position_or_len (λ s. length (before byte s)) (λ x. eqb x byte) refl (λ x s. one x (eqb x byte) s)
@@ -79,10 +86,7 @@ before-position byte = is_position_or_len (λ s. length (before byte s)) (λ x. 
     one x false s = omega arith
 
 pub find-is : (byte : ℕ) (s : List ℕ) (p : Option ℕ) (r : ℕ) → p ≡ position (λ x. eqb x byte) s → r ≡ unwrap_or p (length s) → r ≡ length (before byte s)
-find-is byte s p r e f = f ∙ rw (e, before-position byte s) (go (position_or_len (λ x. eqb x byte) s) (length s) (prefix_len-le-length _ s))
-  where
-    go : (n m : ℕ) → n ≤ m → unwrap_or (cond (nat_lt n m) (Some n) None) m ≡ n
-    go n m h = grind (arith, nat_tests)
+find-is byte s p r e f = place-is (λ x. eqb x byte) s p r e f ∙ sym (before-position byte s)
 
 -- ---- what is put into a buffer
 
