@@ -112,6 +112,7 @@ fn items(
     requires { (at ≤ length message.now) × (line ≤ at + 5) }
     ensures { OfItems message.now at line depth name.now result }
 {
+    // From line to line, where `at` jumps: no range or iterator gives its places.
     while at < message.len() {
         let here = lines::line_at(message, at);
         let text = &message[at..here.end];

@@ -145,6 +145,7 @@ fn check_lines(message: &[u8]) -> Verdict
     let mut line = 0;
     let mut end = 0;
     let mut at = 0;
+    // From line to line, where `at` jumps: no range or iterator gives its places.
     while at < message.len() {
         line += 1;
         let rest = &message[at..];
