@@ -11,25 +11,18 @@ ghost use Rattle.bars.specs.Bars.{goes_on, strays};
 pub fn goes_on(words: &[u8], value: &[u8]) -> bool
     ensures { result ≡ goes_on words.now value.now }
 {
-    let count = words.len() / 4;
-    let mut i = 0;
-    while i < count {
-        let at = i * 4;
-        if text::begins_with(value, &words[at..at + 4]) {
+    for word in words.chunks_exact(4) {
+        if text::begins_with(value, word) {
             return true;
         }
-        i += 1;
     }
     false
 }
 
 // A line begins with a text, and does not go on with one of the words.
+#[tactic(auto, using(crate::proofs::Laws::key_within), unfolding(crate::specs::Bars::strays))]
 pub fn strays(key: &[u8], words: &[u8], line: &[u8]) -> bool
     ensures { result ≡ strays key.now words.now line.now }
 {
-    if !text::begins_with(line, key) {
-        return false;
-    }
-    let from = key.len();
-    !goes_on(words, &line[from..])
+    text::begins_with(line, key) && !goes_on(words, &line[key.len()..])
 }

@@ -9,7 +9,6 @@ use native.Mathlib.Numerals.{add-one}
 use native.Mathlib.Omega.{arith}
 use lib.Dec.{leb}
 use lib.ListN.{length, take, drop}
-use lib.Seq.{drop-drop}
 use borrow.Author.Tests.{leb-true, leb-false, lt-ltb, le-ltb, eq-eqb, ne_eqb}
 use Rattle.text.specs.Bytes.{bytes, begins, same}
 use Rattle.text.proofs.Laws.{and_left, rest_of}
@@ -20,13 +19,15 @@ use Rattle.blocks.specs.Blocks.{is_tagged, name_of, named, role_of, goes, stops,
 use Rattle.blocks.specs.Mutual.{around, leaves, OfItems, OfBlock}
 use Rattle.blocks.specs.declared.Role.{Role}
 use Rattle.blocks.specs.declared.Role.TheVariants.{End, Opens, Closes, Field, Wrong}
-use Rattle.blocks.specs.declared.Walk.{Walk}
+use Rattle.blocks.specs.declared.Walked.{Walked}
+use Rattle.lines.specs.declared.Verdict.{Verdict}
+use Rattle.std.specs.Prelude.{Result, Ok, Err}
 
 -- ---- one line
 
-pub tagged-long : (l : List ℕ) → is_tagged l ≡ true → 5 ≤ length l
+pub tagged_long : (l : List ℕ) → is_tagged l ≡ true → 5 ≤ length l
 unfolding is_tagged
-tagged-long l e = let n : 6 ≤ length l = leb-true _ _ (and_left _ _ e) in omega arith
+tagged_long l e = let n : 6 ≤ length l = leb-true _ _ (and_left _ _ e) in omega arith
 
 -- a line that is about a block
 abbrev pub about : Role → Bool
@@ -37,14 +38,14 @@ about Field = false
 about Wrong = false
 
 -- such a line has a tag in front of its name
-pub about-long : (l : List ℕ) (role : Role) → role ≡ role_of l → about role ≡ true → 5 ≤ length l
+pub about_long : (l : List ℕ) (role : Role) → role ≡ role_of l → about role ≡ true → 5 ≤ length l
 unfolding role_of
-about-long l role is e = on (same (bytes "-") l) (is_tagged l) refl (sym (ap about is) ∙ e)
+about_long l role is e = on (same (bytes "-") l) (is_tagged l) refl (sym (ap about is) ∙ e)
   where
     on : (d t : Bool) → is_tagged l ≡ t
         → about (cond d End (cond t (cond (begins (bytes ":16R:") l) (named Opens (name_of l)) (cond (begins (bytes ":16S:") l) (named Closes (name_of l)) Field)) Wrong)) ≡ true → 5 ≤ length l
     on true t h z = let no : ◌≡◌ {A = ℕ} 0 1 = cc in absurd (omega arith)
-    on false true h z = tagged-long l h
+    on false true h z = tagged_long l h
     on false false h z = let no : ◌≡◌ {A = ℕ} 0 1 = cc in absurd (omega arith)
 
 -- ---- the blocks around the items
@@ -67,28 +68,17 @@ module _ (depth : ℕ) (name : List ℕ) (outer : List (List ℕ)) where
       on true e = let h : 1 ≤ depth = leb-true _ _ e in rw (around-inside (λ z. omega arith))
       on false e = let h : depth < 1 = leb-false _ _ e in rw (around-top (omega arith))
 
--- ---- what a walk leaves
-
-module _ (m : List ℕ) (w : Walk) where
-  leaves-stop : (w.fault ≡ 0 → ⊥) → (outer : List (List ℕ)) → leaves m w outer ≡ refused w.fault w.line
-  unfolding leaves
-  leaves-stop h outer = rw (ne_eqb w.fault 0 h)
-
-  leaves-go : w.fault ≡ 0 → (outer : List (List ℕ)) → leaves m w outer ≡ nest w.line outer (lines_of (drop w.at m))
-  unfolding leaves
-  leaves-go h outer = rw (eq-eqb w.fault 0 h)
-
 -- ---- the walk over a block
 
 module _ (m : List ℕ) (from line depth : ℕ) (name : List ℕ) (inside : from ≤ length m) (counted : line + 1 ≤ from + 5) where
-  pub block-ninth : 8 ≤ depth → OfBlock m from line depth name (record { fault = 7; line = line; at = from })
-  unfolding opening follow
+  pub block-ninth : 8 ≤ depth → OfBlock m from line depth name (Err (record { number = 7; line = line }))
+  unfolding opening follow refused
   block-ninth h = record {
-    forward = record { grows = omega arith; within = inside; counted = omega arith };
-    judged = λ outer e. rw (e, le-ltb depth 8 h) (sym (leaves-stop m _ (λ z. omega arith) outer));
+    forward = tt;
+    judged = λ outer e. rw (e, le-ltb depth 8 h);
   }
 
-  pub block-items : (r : Walk) → depth < 8 → OfItems m from (line + 1) (depth + 1) name r → OfBlock m from line depth name r
+  pub block-items : (r : Result Walked Verdict) → depth < 8 → OfItems m from (line + 1) (depth + 1) name r → OfBlock m from line depth name r
   unfolding opening follow
   block-items r h i = record {
     forward = i.forward;
@@ -112,23 +102,20 @@ module _ (m : List ℕ) (from first depth : ℕ) (name : List ℕ) where
   ahead-all h g = record { passed = omega arith; within = h; counted = g; judged = λ outer e. refl }
 
   -- a walk that ends here with a refusal
-  stopped : (at line fault : ℕ) → Ahead at line → (fault ≡ 0 → ⊥)
-      → ((outer : List (List ℕ)) → length (around depth name outer) ≡ depth → nest line (around depth name outer) (lines_of (drop at m)) ≡ refused fault line)
-      → OfItems m from first depth name (record { fault = fault; line = line; at = at })
-  stopped at line fault a n e = record {
-    forward = record { grows = a.passed; within = a.within; counted = a.counted };
-    through = λ d z. absurd (n z);
-    judged = λ outer f. a.judged outer f ∙ e outer f ∙ sym (leaves-stop m (record { fault = fault; line = line; at = at }) n outer);
-  }
+  stopped : (at line number : ℕ) → Ahead at line
+      → ((outer : List (List ℕ)) → length (around depth name outer) ≡ depth → nest line (around depth name outer) (lines_of (drop at m)) ≡ refused number line)
+      → OfItems m from first depth name (Err (record { number = number; line = line }))
+  unfolding refused
+  stopped at line number a e = record { forward = tt; through = λ d. tt; judged = λ outer f. a.judged outer f ∙ e outer f }
 
   -- the lines are used up
-  pub all_done : (at line : ℕ) → Ahead at line → length m ≤ at → OfItems m from first depth name (record { fault = 0; line = line; at = at })
-  unfolding leaves nest
+  pub all_done : (at line : ℕ) → Ahead at line → length m ≤ at → OfItems m from first depth name (Ok (record { line = line; at = at }))
+  unfolding nest
   all_done at line a h =
       let w = a.within in
       record {
         forward = record { grows = a.passed; within = w; counted = a.counted };
-        through = λ d z. omega arith;
+        through = λ d. omega arith;
         judged = λ outer f. a.judged outer f ∙ rw (lines-behind m at h);
       }
 
@@ -141,9 +128,9 @@ module _ (m : List ℕ) (from first depth : ℕ) (name : List ℕ) where
     unfolding nest
     step blocks = rw (here.go_on, is, add-one line)
 
-    pub wrong-line : role ≡ Wrong → OfItems m from first depth name (record { fault = 5; line = line; at = at })
+    pub wrong-line : role ≡ Wrong → OfItems m from first depth name (Err (record { number = 5; line = line }))
     unfolding turn follow
-    wrong-line r = stopped at line 5 a (λ z. omega arith) (λ outer f. step (around depth name outer) ∙ rw r)
+    wrong-line r = stopped at line 5 a (λ outer f. step (around depth name outer) ∙ rw r)
 
     -- at depth 0 the `-` line is the last that is judged
     pub end-top : role ≡ End → depth ≡ 0 → Ahead (length m) line
@@ -162,9 +149,9 @@ module _ (m : List ℕ) (from first depth : ℕ) (name : List ℕ) where
               ∙ rw (r, around-top depth name outer d, lines-behind m (length m) (omega arith));
         }
 
-    pub end-inside : role ≡ End → (depth ≡ 0 → ⊥) → OfItems m from first depth name (record { fault = 6; line = line; at = at })
+    pub end-inside : role ≡ End → (depth ≡ 0 → ⊥) → OfItems m from first depth name (Err (record { number = 6; line = line }))
     unfolding turn ending follow
-    end-inside r d = stopped at line 6 a (λ z. omega arith) (λ outer f. step (around depth name outer) ∙ rw (r, around-inside depth name outer d))
+    end-inside r d = stopped at line 6 a (λ outer f. step (around depth name outer) ∙ rw (r, around-inside depth name outer d))
 
     pub field-more : role ≡ Field → Ahead next (line + 1)
     unfolding turn follow
@@ -193,12 +180,12 @@ module _ (m : List ℕ) (from first depth : ℕ) (name : List ℕ) where
       unfolding turn
       closed outer = step (around depth name outer) ∙ rw (r, ← name-is, closing-is depth name outer, test)
 
-      pub close_other : fits ≡ false → OfItems m from first depth name (record { fault = 6; line = line; at = at })
+      pub close_other : fits ≡ false → OfItems m from first depth name (Err (record { number = 6; line = line }))
       unfolding follow
-      close_other e = stopped at line 6 a (λ z. omega arith) (λ outer f. closed outer ∙ rw e)
+      close_other e = stopped at line 6 a (λ outer f. closed outer ∙ rw e)
 
-      pub close-same : fits ≡ true → OfItems m from first depth name (record { fault = 0; line = line + 1; at = next })
-      unfolding follow leaves
+      pub close-same : fits ≡ true → OfItems m from first depth name (Ok (record { line = line + 1; at = next }))
+      unfolding follow
       close-same e =
           let p = a.passed in
           let c = a.counted in
@@ -206,54 +193,36 @@ module _ (m : List ℕ) (from first depth : ℕ) (name : List ℕ) where
           let some : 1 ≤ depth = leb-true _ _ (and_left _ _ (sym test ∙ e)) in
           record {
             forward = record { grows = omega arith; within = here.within; counted = omega arith };
-            through = λ d z. let no : ⊥ = omega arith in absurd no;
+            through = λ d. let no : ⊥ = omega arith in absurd no;
             judged = λ outer f. a.judged outer f ∙ closed outer ∙ rw e;
           }
 
-    module _ (r : role ≡ Opens) (w : Walk) (block : OfBlock m next line depth inner w) where
-      opened : (outer : List (List ℕ)) → length (around depth name outer) ≡ depth
+    module _ (r : role ≡ Opens) where
+      opened : (w : Result Walked Verdict) → OfBlock m next line depth inner w → (outer : List (List ℕ)) → length (around depth name outer) ≡ depth
           → nest first (around depth name outer) (lines_of (drop from m)) ≡ leaves m w (around depth name outer)
       unfolding turn
-      opened outer f = a.judged outer f ∙ step (around depth name outer) ∙ rw (r, ← name-is) (block.judged (around depth name outer) f)
+      opened w block outer f = a.judged outer f ∙ step (around depth name outer) ∙ rw (r, ← name-is) (block.judged (around depth name outer) f)
 
-      pub open-stop : (w.fault ≡ 0 → ⊥) → OfItems m from first depth name w
-      open-stop n =
+      pub open-stop : (v : Verdict) → OfBlock m next line depth inner (Err v) → OfItems m from first depth name (Err v)
+      open-stop v block = record { forward = tt; through = λ d. tt; judged = opened (Err v) block }
+
+      pub open_more : (w : Walked) → OfBlock m next line depth inner (Ok w) → Ahead w.at w.line
+      open_more w block =
           let p = a.passed in
           let b = block.forward.grows in
           let g = here.grows in
-          record {
-            forward = record { grows = omega arith; within = block.forward.within; counted = block.forward.counted };
-            through = λ d z. absurd (n z);
-            judged = λ outer f. opened outer f ∙ leaves-stop m w n (around depth name outer) ∙ sym (leaves-stop m w n outer);
-          }
-
-      pub open_more : w.fault ≡ 0 → Ahead w.at w.line
-      open_more z =
-          let p = a.passed in
-          let b = block.forward.grows in
-          let g = here.grows in
-          record {
-            passed = omega arith;
-            within = block.forward.within;
-            counted = block.forward.counted;
-            judged = λ outer f. opened outer f ∙ leaves-go m w z (around depth name outer);
-          }
+          record { passed = omega arith; within = block.forward.within; counted = block.forward.counted; judged = opened (Ok w) block }
 
 -- ---- the lines behind the header
 
-pub header-more : {here next : List (List ℕ)} (all : List (List ℕ)) (k : ℕ) → here ≡ drop k all → next ≡ drop 1 here → next ≡ drop (k + 1) all
-header-more all k e f = f ∙ ap (drop 1) e ∙ drop-drop 1 k all
-
-module _ (m : List ℕ) (at : ℕ) (w : Walk) (lines : lines_of (drop at m) ≡ drop 4 (lines_of m)) (items : OfItems m at 5 0 [] w) where
-  whole : nest_pass m ≡ leaves m w []
+module _ (m : List ℕ) (at : ℕ) (lines : lines_of (drop at m) ≡ drop 4 (lines_of m)) where
+  whole : (r : Result Walked Verdict) → OfItems m at 5 0 [] r → nest_pass m ≡ leaves m r []
   unfolding nest_pass around
-  whole = rw (← lines) (items.judged [] refl)
+  whole r items = rw (← lines) (items.judged [] refl)
 
-  pub nest-good : w.fault ≡ 0 → pass ≡ nest_pass m
+  pub nest-good : (w : Walked) → OfItems m at 5 0 [] (Ok w) → pass ≡ nest_pass m
   unfolding nest
-  nest-good z =
-      let e = items.through refl z in
-      sym (whole ∙ leaves-go m w z [] ∙ rw (lines-behind m w.at (omega arith)))
+  nest-good w items = let e = items.through refl in sym (whole (Ok w) items ∙ rw (lines-behind m w.at (omega arith)))
 
-  pub nest-wrong : (w.fault ≡ 0 → ⊥) → refused w.fault w.line ≡ nest_pass m
-  nest-wrong n = sym (whole ∙ leaves-stop m w n [])
+  pub nest-wrong : (v : Verdict) → OfItems m at 5 0 [] (Err v) → v ≡ nest_pass m
+  nest-wrong v items = sym (whole (Err v) items)

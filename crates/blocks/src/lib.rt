@@ -4,9 +4,8 @@
 // over a block and the walk over its items call each other, and specs/Mutual says what they promise each other.
 #![tactic(auto)]
 
-ghost use Rattle.std.specs.Prelude.{◌≡◌, ◌&&◌, ◌+◌, ◌≤◌, leb, length, drop};
+ghost use Rattle.std.specs.Prelude.{◌≡◌, ◌&&◌, ◌+◌, ◌≤◌, leb, length};
 ghost use Rattle.text.specs.Bytes.{same};
-ghost use Rattle.lines.specs.Lines.{lines_of};
 ghost use Rattle.blocks.specs.Blocks.{is_tagged, named, role_of, nest_pass};
 ghost use Rattle.blocks.specs.Mutual.{OfBlock, OfItems};
 
@@ -23,46 +22,39 @@ enum Role {
     Wrong,
 }
 
-// A refusal's number and line, or 0 and the line and the place behind what was walked.
+// What a walk has left behind it: the line and the place behind what was walked.
 #[derive(Clone, Copy)]
-struct Walk {
-    fault: u64,
+struct Walked {
     line: usize,
     at: usize,
 }
 
 // A colon, two digits, one upper-case letter, a colon, and at least one character.
+#[tactic(auto, unfolding(crate::specs::Blocks::is_tagged, text::specs::Classes::in_class))]
 fn is_tagged(line: &[u8]) -> bool
     ensures { result ≡ is_tagged line.now }
 {
-    if line.len() < 6 {
-        return false;
-    }
-    if line[0] != b':' {
-        return false;
-    }
-    if !text::in_class(Class::Digit, line[1]) {
-        return false;
-    }
-    if !text::in_class(Class::Digit, line[2]) {
-        return false;
-    }
-    if !text::in_class(Class::Upper, line[3]) {
-        return false;
-    }
-    line[4] == b':'
+    6 <= line.len()
+        && line[0] == b':'
+        && text::in_class(Class::Digit, line[1])
+        && text::in_class(Class::Digit, line[2])
+        && text::in_class(Class::Upper, line[3])
+        && line[4] == b':'
 }
 
 // The role of a line that is about a block, if the name is good.
+#[tactic(auto, unfolding(crate::specs::Blocks::named))]
 fn role_named(role: Role, name: &[u8]) -> Role
     ensures { result ≡ named role name.now }
 {
-    if !text::is_code(name, 1, 16) {
-        return Role::Wrong;
+    if text::is_code(name, 1, 16) {
+        role
+    } else {
+        Role::Wrong
     }
-    role
 }
 
+#[tactic(auto, using(crate::proofs::Ways::tagged_long, text::proofs::Laws::rest_of), unfolding(crate::specs::Blocks::role_of, crate::specs::Blocks::name_of, text::specs::Bytes::bytes))]
 fn role_of(line: &[u8]) -> Role
     ensures { result ≡ role_of line.now }
 {
@@ -85,31 +77,23 @@ fn role_of(line: &[u8]) -> Role
 fn is_innermost(depth: usize, innermost: &[u8], name: &[u8]) -> bool
     ensures { result ≡ (leb 1 depth && same innermost.now name.now) }
 {
-    if depth < 1 {
-        return false;
-    }
-    text::equals(name, innermost)
-}
-
-// A walk in which nothing was wrong.
-fn passed(line: usize, at: usize) -> Walk
-    ensures { result ≡ record { fault = 0; line = line; at = at } }
-{
-    Walk { fault: 0, line, at }
+    1 <= depth && text::equals(name, innermost)
 }
 
 // The walk over a block, from the place behind its opening line on.
 #[cycle(block_items)]
-fn block(message: &[u8], from: usize, line: usize, depth: usize, name: &[u8]) -> Walk
+fn block(
+    message: &[u8],
+    from: usize,
+    line: usize,
+    depth: usize,
+    name: &[u8],
+) -> Result<Walked, Verdict>
     requires { (from ≤ length message.now) × (line + 1 ≤ from + 5) }
     ensures { OfBlock message.now from line depth name.now result }
 {
     if 8 <= depth {
-        return Walk {
-            fault: 7,
-            line,
-            at: from,
-        };
+        return Err(Verdict { number: 7, line });
     }
     items(message, from, line + 1, depth + 1, name)
 }
@@ -117,69 +101,58 @@ fn block(message: &[u8], from: usize, line: usize, depth: usize, name: &[u8]) ->
 // The walk over the items of a block of that name, from a place and its line through the closing line; at depth 0 it goes up
 // to the `-` line.
 #[cycle(block_items)]
-fn items(message: &[u8], mut at: usize, mut line: usize, depth: usize, name: &[u8]) -> Walk
+#[tactic(auto, using(lines::proofs::Laws::located, crate::proofs::Ways::about_long))]
+fn items(
+    message: &[u8],
+    mut at: usize,
+    mut line: usize,
+    depth: usize,
+    name: &[u8],
+) -> Result<Walked, Verdict>
     requires { (at ≤ length message.now) × (line ≤ at + 5) }
     ensures { OfItems message.now at line depth name.now result }
 {
+    // From line to line, where `at` jumps: no range or iterator gives its places.
     while at < message.len() {
         let here = lines::line_at(message, at);
-        let end = here.end;
-        let text = &message[at..end];
+        let text = &message[at..here.end];
         match role_of(text) {
             Role::End => {
                 if depth != 0 {
-                    return Walk { fault: 6, line, at };
+                    return Err(Verdict { number: 6, line });
                 }
                 at = message.len();
             }
             Role::Opens => {
-                let walk = block(message, here.next, line, depth, &text[5..]);
-                if walk.fault != 0 {
-                    return walk;
-                }
-                at = walk.at;
-                line = walk.line;
+                let inner = block(message, here.next, line, depth, &text[5..])?;
+                at = inner.at;
+                line = inner.line;
             }
             Role::Closes => {
                 if !is_innermost(depth, name, &text[5..]) {
-                    return Walk { fault: 6, line, at };
+                    return Err(Verdict { number: 6, line });
                 }
-                return passed(line + 1, here.next);
+                return Ok(Walked {
+                    line: line + 1,
+                    at: here.next,
+                });
             }
             Role::Field => {
                 at = here.next;
                 line += 1;
             }
-            Role::Wrong => return Walk { fault: 5, line, at },
+            Role::Wrong => return Err(Verdict { number: 5, line }),
         }
     }
-    passed(line, at)
+    Ok(Walked { line, at })
 }
 
-// The place behind the four lines of the header.
-fn behind_header(message: &[u8]) -> usize
-    ensures { (result ≤ length message.now) × (lines_of (drop result message.now) ≡ drop 4 (lines_of message.now)) }
-{
-    let mut at = 0;
-    let mut passed: usize = 0;
-    while passed < 4 {
-        let here = lines::line_at(message, at);
-        at = here.next;
-        passed += 1;
-    }
-    at
-}
-
-// 5, 6 and 7, in one pass over the lines behind the header.
+// 5, 6 and 7, in one pass over the lines behind the four of the header.
 pub fn nesting(message: &[u8]) -> Verdict
     ensures { result ≡ nest_pass message.now }
 {
-    let walk = items(message, behind_header(message), 5, 0, b"");
-    if walk.fault == 0 {
-        return Verdict::PASS;
-    }
-    Verdict {
-        number: walk.fault,
-        line: walk.line,
+    match items(message, lines::behind(message, 4), 5, 0, b"") {
+        Ok(_) => Verdict::PASS,
+        Err(refusal) => refusal,
     }
 }

@@ -8,10 +8,15 @@ use mathlib.Core.List.{List, [], ◌∷◌, ◌++◌, append-nil}
 use native.Mathlib.Nat.{not-suc-le-zero, add-zero, zero-add, suc-add}
 use native.Mathlib.Numerals.{add-one}
 use native.Mathlib.Omega.{arith}
-use lib.Dec.{leb, ltb, eqb, eqb-suc-zero}
+use lib.Dec.{leb, eqb, eqb-suc-zero}
 use lib.ListN.{length, take, drop, get_or, length-drop, drop_of_length-le}
 use lib.Seq.{get_or-drop, drop-drop, length-take-le}
-use borrow.Author.Tests.{ltb-true, ltb-false, le-leb, lt-leb, eq-eqb, ne_eqb, eqb-true}
+use Rattle.std.specs.Prelude.{Option, not}
+use Rattle.std.specs.List.{position, prefix_len}
+use Rattle.std.proofs.lemmas.List.Sums.{prefix_len-le-length, prefix_len_passes, prefix_len_stops}
+use Rattle.text.proofs.Scans.{place-is}
+use Rattle.std.specs.Option.{unwrap_or}
+use borrow.Author.Tests.{le-leb, lt-leb, eq-eqb, ne_eqb, eqb-true}
 use Rattle.text.specs.Bytes.{bytes, begins, same, before}
 use Rattle.text.specs.Classes.{is_between}
 use Rattle.text.proofs.Laws.{and_left, and_right, begins-is, before-front, before-length, rest_of}
@@ -32,21 +37,21 @@ unfolding bare
 bare-all b [] e = rw (ne_eqb _ _ e)
 bare-all b (c ∷ s) e = ap suc (bare-all c s e)
 
-pub cr-none : (s : List ℕ) → length s ≡ 0 → 0 ≡ length (bare s)
+pub cr_none : (s : List ℕ) → length s ≡ 0 → 0 ≡ length (bare s)
 unfolding bare
-cr-none [] e = refl
-cr-none (b ∷ s) e = let z : ⊥ = omega arith in absurd z
+cr_none [] e = refl
+cr_none (b ∷ s) e = let z : ⊥ = omega arith in absurd z
 
 module _ (s : List ℕ) (some : length s ≡ 0 → ⊥) where
-  pub cr-last : get_or s (length s - 1) 0 ≡ 13 → length s - 1 ≡ length (bare s)
-  cr-last e = at s some e
+  pub cr_last : get_or s (length s - 1) 0 ≡ 13 → length s - 1 ≡ length (bare s)
+  cr_last e = at s some e
     where
       at : (s : List ℕ) → (length s ≡ 0 → ⊥) → get_or s (length s - 1) 0 ≡ 13 → length s - 1 ≡ length (bare s)
       at [] some e = absurd (some refl)
       at (b ∷ s) some e = let n : suc (length s) - 1 ≡ length s = omega arith in rw n (bare-cr b s (rw n at e))
 
-  pub cr-other : (get_or s (length s - 1) 0 ≡ 13 → ⊥) → length s ≡ length (bare s)
-  cr-other e = at s some e
+  pub cr_other : (get_or s (length s - 1) 0 ≡ 13 → ⊥) → length s ≡ length (bare s)
+  cr_other e = at s some e
     where
       at : (s : List ℕ) → (length s ≡ 0 → ⊥) → (get_or s (length s - 1) 0 ≡ 13 → ⊥) → length s ≡ length (bare s)
       at [] some e = absurd (some refl)
@@ -102,25 +107,15 @@ Prints s n = (j : ℕ) → j < n → is_between 32 126 (get_or s j 0) ≡ true
 abbrev pub Front : List ℕ → ℕ → Type 0
 Front s n = (n ≤ length s) × Prints s n × (n < length s → is_between 32 126 (get_or s n 0) ≡ false)
 
-module _ (s : List ℕ) (i : ℕ) (short : i ≤ length s) (so_far : Prints s i) where
-  pub text-low : get_or s i 0 < 32 → Front s i
-  unfolding is_between
-  text-low h = (short, so_far, λ _. rw (lt-leb 32 _ h))
-
-  pub text-high : 126 < get_or s i 0 → Front s i
-  unfolding is_between
-  text-high h = (short, so_far, λ _. rw (lt-leb _ 126 h) (and-false (leb 32 (get_or s i 0))))
-
-  pub text-more : 32 ≤ get_or s i 0 → get_or s i 0 ≤ 126 → Prints s (i + 1)
-  unfolding is_between
-  text-more h g j l = at (ltb j i) refl
-    where
-      at : (t : Bool) → ltb j i ≡ t → is_between 32 126 (get_or s j 0) ≡ true
-      at true t = so_far j (ltb-true _ _ t)
-      at false t = let x : j ≡ i = omega (arith, ltb-false j i t) in rw (x, le-leb 32 (get_or s i 0) h, le-leb (get_or s i 0) 126 g)
-
-  pub text-done : length s ≤ i → Front s i
-  text-done h = (short, so_far, λ l. let z : ⊥ = omega arith in absurd z)
+pub front-is : (s : List ℕ) (p : Option ℕ) (n : ℕ) → p ≡ position (λ b. not (is_between 32 126 b)) s → n ≡ unwrap_or p (length s) → Front s n
+front-is s p n e f =
+    let test : ℕ → Bool = λ b. not (not (is_between 32 126 b)) in
+    let is : n ≡ prefix_len test s = place-is (λ b. not (is_between 32 126 b)) s p n e f in
+    rw is (prefix_len-le-length test s, λ j h. twice (prefix_len_passes test s j 0 h), λ h. twice (prefix_len_stops test s 0 h))
+  where
+    twice : {b t : Bool} → not (not b) ≡ t → b ≡ t
+    twice {b = true} e = e
+    twice {b = false} e = e
 
 -- such a byte may stand anywhere
 print-stands : (b : ℕ) → is_between 32 126 b ≡ true → (s : List ℕ) → may_stand b s ≡ true

@@ -31,17 +31,14 @@ impl Verdict {
 }
 
 // How many bytes of a line are left without the CR that belongs to its ending.
+#[tactic(auto, using(crate::proofs::Scans::cr_none, crate::proofs::Scans::cr_last, crate::proofs::Scans::cr_other))]
 fn without_cr(raw: &[u8]) -> usize
     ensures { result ≡ length (bare raw.now) }
 {
-    if raw.len() == 0 {
-        return 0;
+    match raw.last() {
+        Some(last) if *last == b'\r' => raw.len() - 1,
+        _ => raw.len(),
     }
-    let last = raw.len() - 1;
-    if raw[last] == b'\r' {
-        return last;
-    }
-    raw.len()
 }
 
 // The line that begins at a place of a message; behind the end there is an empty one.
@@ -68,10 +65,8 @@ pub fn behind(message: &[u8], count: usize) -> usize
     ensures { result ≡ start_behind message.now count }
 {
     let mut at = 0;
-    let mut i = 0;
-    while i < count {
+    for _ in 0..count {
         at = line_at(message, at).next;
-        i += 1;
     }
     at
 }
@@ -80,18 +75,9 @@ pub fn behind(message: &[u8], count: usize) -> usize
 fn text_length(part: &[u8]) -> usize
     ensures { (result ≤ length part.now) × ((j : ℕ) → j < result → is_between 32 126 (get_or part.now j 0) ≡ true) × (result < length part.now → is_between 32 126 (get_or part.now result 0) ≡ false) }
 {
-    let mut i = 0;
-    while i < part.len() {
-        let byte = part[i];
-        if byte < 32 {
-            return i;
-        }
-        if 126 < byte {
-            return i;
-        }
-        i += 1;
-    }
-    i
+    part.iter()
+        .position(|byte| !(b' '..=b'~').contains(byte))
+        .unwrap_or(part.len())
 }
 
 // How many bytes of line ending a part begins with: 0 where the message ends there, `NO_ENDING` where another byte stands.
@@ -159,6 +145,7 @@ fn check_lines(message: &[u8]) -> Verdict
     let mut line = 0;
     let mut end = 0;
     let mut at = 0;
+    // From line to line, where `at` jumps: no range or iterator gives its places.
     while at < message.len() {
         line += 1;
         let rest = &message[at..];

@@ -15,14 +15,15 @@ pub enum Turn {
 }
 
 // Where the piece at a position ends: just after the first line that is `-`, or at the end where there is none.
+#[tactic(auto, using(lines::proofs::Laws::located))]
 pub fn piece_end(batch: &[u8], position: usize) -> usize
     ensures { result ≡ position + length (piece_of (drop position batch.now)) }
 {
     let mut at = position;
+    // From line to line, where `at` jumps: no range or iterator gives its places.
     while at < batch.len() {
         let line = lines::line_at(batch, at);
-        let end = line.end;
-        if text::equals(&batch[at..end], b"-") {
+        if text::equals(&batch[at..line.end], b"-") {
             return line.next;
         }
         at = line.next;

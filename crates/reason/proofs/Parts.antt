@@ -13,9 +13,9 @@ use Rattle.text.specs.Copy.{over, fits, placed, after}
 use Rattle.text.proofs.Laws.{begins-length}
 use Rattle.reason.specs.Reason.{has_reason}
 
-pub key-within : (rest : List ℕ) → has_reason rest ≡ true → 5 ≤ length rest
+pub key_within : (rest : List ℕ) → has_reason rest ≡ true → 5 ≤ length rest
 unfolding has_reason bytes
-key-within rest h = begins-length (bytes "/DKRS") rest h
+key_within rest h = begins-length (bytes "/DKRS") rest h
 
 -- a text put behind the key into a line of twenty-five bytes
 module _ (line s : List ℕ) (long : length line ≡ 25) (key : take 5 line ≡ bytes "/DKRS") (short : length s ≤ 20) where

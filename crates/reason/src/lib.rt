@@ -10,6 +10,7 @@ ghost use Rattle.reason.specs.Reason.{has_reason, reason_in, good_reason, reason
 
 use text::Text;
 
+#[tactic(auto, unfolding(crate::specs::Reason::has_reason, text::specs::Bytes::bytes))]
 pub fn has(rest: &[u8]) -> bool
     ensures { result ≡ has_reason rest.now }
 {
@@ -17,20 +18,22 @@ pub fn has(rest: &[u8]) -> bool
 }
 
 // What stands behind `/DKRS`; nothing where there is none.
+#[tactic(auto, using(crate::proofs::Parts::key_within, text::proofs::Laws::rest_of), unfolding(crate::specs::Reason::reason_in))]
 pub fn code_in(rest: &[u8]) -> &[u8]
     ensures { result.now ≡ reason_in rest.now }
 {
-    if has(rest) { &rest[5..] } else { &rest[..0] }
+    if has(rest) { &rest[5..] } else { &[] }
 }
 
 // A reason, where there is one, is 4 c; and nothing else is left.
+#[tactic(auto, unfolding(crate::specs::Reason::good_reason))]
 pub fn is_good(rest: &[u8]) -> bool
     ensures { result ≡ good_reason rest.now }
 {
     if has(rest) {
         text::is_code(code_in(rest), 4, 4)
     } else {
-        rest.len() == 0
+        rest.is_empty()
     }
 }
 
@@ -47,10 +50,9 @@ pub fn put(buf: &mut [u8], at: usize, reason: Text) -> usize
 }
 
 // The reason of a record is absent or 4 c.
+#[tactic(auto, unfolding(crate::specs::Reason::reason_form))]
 pub fn in_form(reason: Text) -> bool
     ensures { result ≡ reason_form reason }
 {
-    let absent = reason.in_form(0, 0);
-    let four = reason.in_form(4, 4);
-    absent | four
+    reason.in_form(0, 0) || reason.in_form(4, 4)
 }

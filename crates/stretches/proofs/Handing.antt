@@ -1,37 +1,14 @@
 -- The mathematics of handing out the places of fields, over plain lists; and, for callers, that places as many as the fields hold just
 -- these (`starts-all`, `ends-all`).
 -- Assumes nothing.
-use Prim.Native.Nat.{ℕ, zero, suc, ◌+◌, ◌≤◌, ◌<◌}
+use Prim.Native.Nat.{ℕ, suc, ◌+◌, ◌≤◌, ◌<◌}
 use mathlib.Core.Path.{◌≡◌, refl, sym, ap, ◌∙◌}
-use mathlib.Core.Bool.{Bool, true, false, cond}
-use mathlib.Core.List.{List, [], ◌∷◌, ◌++◌, map, append-nil}
-use native.Mathlib.Nat.{add-zero}
+use mathlib.Core.List.{List, [], ◌∷◌, ◌++◌, append-nil}
 use native.Mathlib.Numerals.{add-one}
 use native.Mathlib.Omega.{arith}
-use lib.Dec.{eqb, ltb}
-use lib.ListN.{length, drop, get_or, set, length-set, drop_of_length-le}
+use lib.ListN.{length, drop, get_or, set, drop_of_length-le}
 use lib.Seq.{sets, sets-eq, drop-cons, drop-length}
-use borrow.Author.Tests.{eq-eqb, ne_eqb, lt-ltb, le-ltb}
 use Rattle.stretches.specs.Fields.{begun_for, starts_for, ends_for, starts_handed, ends_handed}
-
--- ---- where a field begins
-
-module _ (narrative field from to : ℕ) where
-  pub begins-whole : (field ≡ narrative → ⊥) → from ≡ begun_for narrative field from to
-  unfolding begun_for
-  begins-whole h = rw (ne_eqb field narrative h, add-zero from) (go (ltb from to))
-    where
-      go : (b : Bool) → from ≡ cond b from from
-      go true = refl
-      go false = refl
-
-  pub begins-behind : field ≡ narrative → from < to → from + 1 ≡ begun_for narrative field from to
-  unfolding begun_for
-  begins-behind e h = rw (eq-eqb field narrative e, lt-ltb from to h)
-
-  pub begins-nowhere : to ≤ from → from ≡ begun_for narrative field from to
-  unfolding begun_for
-  begins-nowhere h = rw (le-ltb from to h)
 
 -- ---- field by field: what is written, with what is still ahead, is all
 
@@ -39,12 +16,10 @@ module _ (narrative : ℕ) (begun ended slots starts₀ ends₀ : List ℕ) wher
   pub record Same (starts ends : List ℕ) (field : ℕ) : Type 0 where
     pub starts-are : sets starts field (starts_for narrative begun ended field (drop field slots)) ≡ starts_handed narrative begun ended slots starts₀
     pub ends-are : sets ends field (ends_for ended (drop field slots)) ≡ ends_handed ended slots ends₀
-    pub starts-long : length starts ≡ length starts₀
-    pub ends-long : length ends ≡ length ends₀
 
   pub begin : Same starts₀ ends₀ 0
   unfolding starts_handed ends_handed
-  begin = record { starts-are = refl; ends-are = refl; starts-long = refl; ends-long = refl }
+  begin = record { starts-are = refl; ends-are = refl }
 
   module _ {starts ends : List ℕ} {field : ℕ} (s : Same starts ends field) where
     pub more : field < length slots → {slot at from to : ℕ} → slot ≡ get_or slots field 0 → to ≡ get_or ended slot 0 → at ≡ get_or begun slot 0
@@ -56,8 +31,6 @@ module _ (narrative : ℕ) (begun ended slots starts₀ ends₀ : List ℕ) wher
         record {
           starts-are = rw (f, b, a, e, is, add-one field) (rw d at s.starts-are);
           ends-are = rw (g, e, is, add-one field) (rw d at s.ends-are);
-          starts-long = ap length f ∙ length-set starts field from ∙ s.starts-long;
-          ends-long = ap length g ∙ length-set ends field to ∙ s.ends-long;
         }
 
     pub done : length slots ≤ field → (starts ≡ starts_handed narrative begun ended slots starts₀) × (ends ≡ ends_handed ended slots ends₀)

@@ -12,26 +12,22 @@ ghost use Rattle.stretches.specs.Fields.{begun_for, starts_handed, ends_handed};
 pub const SLOTS: usize = 40;
 
 // From one place to another of a text; nothing where they do not stand in it in that order.
+#[tactic(auto, unfolding(crate::specs::Stretches::between))]
 pub fn part(text: &[u8], from: usize, to: usize) -> &[u8]
     ensures { result.now ≡ between text.now from to }
 {
-    if to < from {
-        return &text[..0];
-    }
-    if text.len() < to {
-        return &text[..0];
-    }
-    &text[from..to]
+    text.get(from..to).unwrap_or(&[])
 }
 
 // The place of a slot; 0 for one without.
 pub fn at(places: &[usize], slot: usize) -> usize
     ensures { result ≡ get_or places.now slot 0 }
 {
-    if slot < places.len() { places[slot] } else { 0 }
+    places.get(slot).copied().unwrap_or(0)
 }
 
 // The value of a slot as a stretch of the text.
+#[tactic(auto, unfolding(crate::specs::Stretches::stretch_of))]
 pub fn stretch<'a, 'b>(
     text: &'a [u8],
     starts: &'b [usize],
@@ -52,21 +48,17 @@ pub fn keep(places: &mut [usize], slot: usize, place: usize)
     }
 }
 
-fn wide(byte: u8) -> usize
-    ensures { result ≡ byte }
-{
-    byte as usize
-}
-
 // Where a field begins whose slot's value stands between two places: of the narrative's value, where it is there, the first byte
 // is not the field's.
+#[tactic(auto, unfolding(crate::specs::Fields::begun_for))]
 fn begin(narrative: usize, field: usize, from: usize, to: usize) -> usize
     ensures { result ≡ begun_for narrative field from to }
 {
-    if field != narrative {
-        return from;
+    if field == narrative && from < to {
+        from + 1
+    } else {
+        from
     }
-    if from < to { from + 1 } else { from }
 }
 
 // Hands out, field by field, where the values of their slots stand. Lent are the slot of each field, by the field's number from 0;
@@ -83,12 +75,10 @@ pub fn hand_out<'a>(
     ensures { (starts.new ≡ starts_handed narrative begun.now ended.now slots.now starts.old)
         × (ends.new ≡ ends_handed ended.now slots.now ends.old) }
 {
-    let mut field = 0;
-    while field < slots.len() {
-        let slot = wide(slots[field]);
+    for (field, slot) in slots.iter().enumerate() {
+        let slot = usize::from(*slot);
         let end = at(ended, slot);
         keep(starts, field, begin(narrative, field, at(begun, slot), end));
         keep(ends, field, end);
-        field += 1;
     }
 }

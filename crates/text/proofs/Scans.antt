@@ -3,23 +3,29 @@
 -- Assumes nothing.
 use Prim.Native.Nat.{ℕ, suc, ◌+◌, ◌-◌, ◌≤◌, ◌<◌}
 use mathlib.Core.Path.{◌≡◌, refl, sym, ap, ◌∙◌}
-use mathlib.Core.Bool.{Bool, true, false, ◌&&◌, and-false, and-true, and_assoc}
-use mathlib.Core.List.{List, [], ◌∷◌, append_assoc}
+use mathlib.Core.Bool.{Bool, cond, true, false, ◌&&◌, and-false, and-true, and_assoc}
+use mathlib.Core.List.{List, [], ◌∷◌}
 use native.Mathlib.Numerals.{add-one}
-use native.Mathlib.Nat.{add-zero, zero-add, not-suc-le-zero, le_of_suc-le-suc}
+use native.Mathlib.Nat.{zero-add, not-suc-le-zero, le_of_suc-le-suc}
 use native.Mathlib.Omega.{arith}
 use lib.Dec.{eqb}
-use lib.ListN.{length, take, drop, get_or, set, replicate, length-replicate, drop_of_length-le}
-use lib.Seq.{drop-cons, paste, paste-suc, take-length, take_all}
-use borrow.Author.Tests.{le-leb, lt-leb, eq-eqb, ne_eqb}
+use lib.ListN.{length, take, drop, get_or, replicate, length-replicate, drop_of_length-le}
+use lib.Seq.{drop-cons, drop-drop}
+use borrow.Rule.Slice.PartMut.{put_mid}
+use Rattle.std.specs.List.{position_or_len, position, list_all, zip}
+use Rattle.std.specs.Prelude.{Option, Some, None, nat_lt}
+use Rattle.std.specs.Option.{unwrap_or}
+use Rattle.std.proofs.lemmas.List.Recursion.{is_position_or_len}
+use Rattle.std.proofs.lemmas.List.Sums.{prefix_len-le-length}
+use Rattle.std.proofs.lemmas.Bool.Decides.{nat_tests}
+use borrow.Author.Tests.{le-leb, lt-leb, eq-eqb}
 use Rattle.text.proofs.Laws.{drop-replicate, rest_of}
 use Rattle.text.specs.Bytes.{begins, same, before}
 use Rattle.text.specs.Classes.{in_class, all_in}
 use Rattle.text.specs.Copy.{over, fits, placed, after}
-use Rattle.text.specs.Texts.{padded, fills, blank, contents, text_of}
+use Rattle.text.specs.Texts.{padded, fills, blank, text_of}
 use Rattle.text.specs.declared.Class.{Class}
 use Rattle.text.specs.declared.Class.TheVariants.{Zero}
-use Rattle.text.specs.declared.Text.{Text}
 
 -- ---- every byte of a class: what was seen up to a place, and what is left
 
@@ -34,70 +40,64 @@ module _ (k : Class) (s : List ℕ) (g : Bool) (i : ℕ) (inv : (g && all_in k (
 
 -- ---- a part against a key, from a place on
 
-pub begins-short : (key part : List ℕ) → length part < length key → false ≡ begins key part
+pub begins_short : (key part : List ℕ) → length part < length key → false ≡ begins key part
 unfolding begins
-begins-short [] part h = absurd (not-suc-le-zero h)
-begins-short (k ∷ key) [] h = refl
-begins-short (k ∷ key) (b ∷ part) h = sym (rw (← begins-short key part (le_of_suc-le-suc h)) (and-false (eqb b k)))
+begins_short [] part h = absurd (not-suc-le-zero h)
+begins_short (k ∷ key) [] h = refl
+begins_short (k ∷ key) (b ∷ part) h = sym (rw (← begins_short key part (le_of_suc-le-suc h)) (and-false (eqb b k)))
 
-module _ (key part : List ℕ) (i : ℕ) (inv : begins (drop i key) (drop i part) ≡ begins key part) where
-  begins-step : i < length key → i < length part → begins key part ≡ (eqb (get_or part i 0) (get_or key i 0) && begins (drop (i + 1) key) (drop (i + 1) part))
-  unfolding begins
-  begins-step h g = sym inv ∙ rw (add-one, drop-cons key i 0 h, drop-cons part i 0 g)
-
-  pub begins-stop : i < length key → i < length part → (get_or part i 0 ≡ get_or key i 0 → ⊥) → false ≡ begins key part
-  begins-stop h g e = sym (begins-step h g ∙ rw (ne_eqb _ _ e))
-
-  pub begins-more : i < length key → i < length part → get_or part i 0 ≡ get_or key i 0 → begins (drop (i + 1) key) (drop (i + 1) part) ≡ begins key part
-  begins-more h g e = sym (begins-step h g ∙ rw (eq-eqb _ _ e))
-
-  pub begins-done : length key ≤ i → true ≡ begins key part
-  unfolding begins
-  begins-done h = sym (sym inv ∙ ap (λ (l : List ℕ). begins l (drop i part)) (drop_of_length-le key h))
-
-pub same-long : (key part : List ℕ) → length part ≡ length key → begins key part ≡ same key part
+pub same_long : (key part : List ℕ) → length part ≡ length key → begins key part ≡ same key part
 unfolding begins same
-same-long [] [] e = refl
-same-long [] (b ∷ part) e = let z : ⊥ = omega arith in absurd z
-same-long (k ∷ key) [] e = refl
-same-long (k ∷ key) (b ∷ part) e = ap (λ (t : Bool). eqb b k && t) (same-long key part (omega arith))
+same_long [] [] e = refl
+same_long [] (b ∷ part) e = let z : ⊥ = omega arith in absurd z
+same_long (k ∷ key) [] e = refl
+same_long (k ∷ key) (b ∷ part) e = ap (λ (t : Bool). eqb b k && t) (same_long key part (omega arith))
 
-pub same-short : (key part : List ℕ) → (length part ≡ length key → ⊥) → false ≡ same key part
+pub same_short : (key part : List ℕ) → (length part ≡ length key → ⊥) → false ≡ same key part
 unfolding same
-same-short [] [] e = absurd (e refl)
-same-short [] (b ∷ part) e = refl
-same-short (k ∷ key) [] e = refl
-same-short (k ∷ key) (b ∷ part) e = sym (rw (← same-short key part (λ h. e (ap suc h))) (and-false (eqb b k)))
+same_short [] [] e = absurd (e refl)
+same_short [] (b ∷ part) e = refl
+same_short (k ∷ key) [] e = refl
+same_short (k ∷ key) (b ∷ part) e = sym (rw (← same_short key part (λ h. e (ap suc h))) (and-false (eqb b k)))
 
--- ---- the first byte of a kind, from a place on
+-- a key's bytes beside those of a part that is as long at least
+pub begins_zip : (key part : List ℕ) → length key ≤ length part → list_all (λ p. eqb p.0 p.1) (zip part key) ≡ begins key part
+unfolding begins
+begins_zip [] [] h = refl
+begins_zip [] (b ∷ part) h = refl
+begins_zip (k ∷ key) [] h = absurd (not-suc-le-zero h)
+begins_zip (k ∷ key) (b ∷ part) h = ap (λ (t : Bool). eqb b k && t) (begins_zip key part (le_of_suc-le-suc h))
 
-module _ (byte : ℕ) (s : List ℕ) (i : ℕ) (inv : length (before byte s) ≡ i + length (before byte (drop i s))) where
-  pub find-here : i < length s → get_or s i 0 ≡ byte → i ≡ length (before byte s)
-  unfolding before
-  find-here h e = sym (inv ∙ rw (drop-cons s i 0 h, eq-eqb _ _ e) (add-zero i))
+-- ---- the first byte of a kind
 
-  pub find-more : i < length s → (get_or s i 0 ≡ byte → ⊥) → length (before byte s) ≡ i + 1 + length (before byte (drop (i + 1) s))
-  unfolding before
-  find-more h e = inv ∙ rw (drop-cons s i 0 h, ne_eqb _ _ e, add-one) (omega arith)
+-- its place, or the end where there is none
+pub place-is : (test : ℕ → Bool) (s : List ℕ) (p : Option ℕ) (r : ℕ) → p ≡ position test s → r ≡ unwrap_or p (length s) → r ≡ position_or_len test s
+place-is test s p r e f = f ∙ rw e (go (position_or_len test s) (length s) (prefix_len-le-length _ s))
+  where
+    go : (n m : ℕ) → n ≤ m → unwrap_or (cond (nat_lt n m) (Some n) None) m ≡ n
+    go n m h = grind (arith, nat_tests)
 
-  pub find_none : length s ≤ i → i ≡ length (before byte s)
-  unfolding before
-  find_none h = sym (inv ∙ rw (drop_of_length-le s h) (add-zero i))
+before-position : (byte : ℕ) (s : List ℕ) → length (before byte s) ≡ position_or_len (λ x. eqb x byte) s
+unfolding before
+before-position byte = is_position_or_len (λ s. length (before byte s)) (λ x. eqb x byte) refl (λ x s. one x (eqb x byte) s)
+  where
+    one : (x : ℕ) (b : Bool) (s : List ℕ) → length (cond b [] (x ∷ before byte s)) ≡ cond b 0 (1 + length (before byte s))
+    one x true s = refl
+    one x false s = omega arith
+
+pub find-is : (byte : ℕ) (s : List ℕ) (p : Option ℕ) (r : ℕ) → p ≡ position (λ x. eqb x byte) s → r ≡ unwrap_or p (length s) → r ≡ length (before byte s)
+find-is byte s p r e f = place-is (λ x. eqb x byte) s p r e f ∙ sym (before-position byte s)
 
 -- ---- what is put into a buffer
 
 module _ (buf : List ℕ) (at : ℕ) (s : List ℕ) where
-  pub put-none : length buf < at + length s → (at ≡ after buf at s) × (buf ≡ placed buf at s)
+  pub put_none : length buf < at + length s → (at ≡ after buf at s) × (buf ≡ placed buf at s)
   unfolding after placed fits
-  put-none h = (rw (lt-leb (at + length s) (length buf) h), rw (lt-leb (at + length s) (length buf) h))
+  put_none h = (rw (lt-leb (at + length s) (length buf) h), rw (lt-leb (at + length s) (length buf) h))
 
-  pub put-more : (now : List ℕ) (i : ℕ) → now ≡ paste buf at s i → at + i < length buf → i < length s → set now (at + i) (get_or s i 0) ≡ paste buf at s (i + 1)
-  put-more now i e h g = rw (e, add-one) (paste-suc buf at s i 0 h g)
-
-  pub put-done : (now : List ℕ) (i : ℕ) → now ≡ paste buf at s i → at + length s ≤ length buf → i ≡ length s → (at + i ≡ after buf at s) × (now ≡ placed buf at s)
+  pub put_all : (n : ℕ) (new : List ℕ) → n ≡ length s → at + length s ≤ length buf → new ≡ s → (at + length s ≡ after buf at s) × (put_mid at n buf new ≡ placed buf at s)
   unfolding after placed fits over
-  put-done now i e h g =
-      (rw (le-leb (at + length s) (length buf) h, g), rw (le-leb (at + length s) (length buf) h, e, g, take-length s, append_assoc))
+  put_all n new e h f = (rw (le-leb (at + length s) (length buf) h), rw (le-leb (at + length s) (length buf) h, e, f, drop-drop (length s) at buf, over))
 
 -- ---- texts
 
@@ -138,8 +138,3 @@ module _ (good : Bool) (room least most : ℕ) (bytes : List ℕ) (len : ℕ) (n
 
         pub zeros-left : good ≡ true → (b : Bool) → b ≡ all_in Zero (take (room - len) (drop len bytes)) → b ≡ fills good room least most bytes len
         zeros-left h b e = rw (eq-eqb _ _ n, le-leb _ _ l, le-leb _ _ f, le-leb _ _ m, h) (e ∙ ap (all_in Zero) (rest_of len room bytes n))
-
--- where the length is past the bytes, the contents are all of them
-pub contents-all : (t : Text) → length t.bytes ≤ t.len → contents t ≡ t.bytes
-unfolding contents
-contents-all t h = take_all t.len t.bytes h

@@ -36,9 +36,9 @@ module _ (s : List ℕ) (at : ℕ) where
   unfolding little
   half_is h = rw (four-of h) (omega arith)
 
-  pub word-is : at + 8 ≤ length s → little (take 4 (drop at s)) + 4294967296 * little (take 4 (drop (at + 4) s)) ≡ little (take 8 (drop at s))
+  pub word_is : at + 8 ≤ length s → little (take 4 (drop at s)) + 4294967296 * little (take 4 (drop (at + 4) s)) ≡ little (take 8 (drop at s))
   unfolding little
-  word-is h = let g : at + 4 ≤ length s = omega arith in rw (four-of g) (omega arith)
+  word_is h = let g : at + 4 ≤ length s = omega arith in rw (four-of g) (omega arith)
 
 -- ---- the number tells the bytes
 

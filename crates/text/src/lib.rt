@@ -28,28 +28,28 @@ pub struct Text {
     pub len: usize,
 }
 
+#[tactic(auto, unfolding(crate::specs::Classes::is_between))]
 fn between(byte: u8, low: u8, high: u8) -> bool
     ensures { result ≡ is_between low high byte }
 {
     low <= byte && byte <= high
 }
 
+#[tactic(auto, unfolding(crate::specs::Classes::is_c, crate::specs::Classes::is_upper, crate::specs::Classes::is_digit))]
 fn is_c(byte: u8) -> bool
     ensures { result ≡ is_c byte }
 {
-    if between(byte, b'A', b'Z') {
-        true
-    } else {
-        between(byte, b'0', b'9')
-    }
+    between(byte, b'A', b'Z') || between(byte, b'0', b'9')
 }
 
+#[tactic(auto, unfolding(crate::specs::Classes::is_hyphened))]
 fn is_hyphened(byte: u8) -> bool
     ensures { result ≡ is_hyphened byte }
 {
-    if is_c(byte) { true } else { byte == b'-' }
+    is_c(byte) || byte == b'-'
 }
 
+#[tactic(auto, unfolding(crate::specs::Classes::in_class, crate::specs::Classes::is_upper, crate::specs::Classes::is_digit))]
 pub fn in_class(class: Class, byte: u8) -> bool
     ensures { result ≡ in_class class byte }
 {
@@ -67,13 +67,7 @@ pub fn in_class(class: Class, byte: u8) -> bool
 pub fn remainder(byte: u8, n: u8) -> u8
     ensures { result ≡ byte % n }
 {
-    if byte < n {
-        return byte;
-    }
-    if n == 0 {
-        return byte;
-    }
-    byte % n
+    if byte < n || n == 0 { byte } else { byte % n }
 }
 
 // Every byte of a part is of a class. Each is looked at, also behind one that is not, so that the machine can look at many at once.
@@ -81,10 +75,8 @@ pub fn all_in(class: Class, part: &[u8]) -> bool
     ensures { result ≡ all_in class part.now }
 {
     let mut good = true;
-    let mut i = 0;
-    while i < part.len() {
-        good = good & in_class(class, part[i]);
-        i += 1;
+    for byte in part {
+        good &= in_class(class, *byte);
     }
     good
 }
@@ -93,40 +85,31 @@ pub fn all_in(class: Class, part: &[u8]) -> bool
 pub fn is_all(class: Class, part: &[u8], least: usize, most: usize) -> bool
     ensures { result ≡ is_all class least most part.now }
 {
-    if part.len() < least {
-        return false;
-    }
-    if most < part.len() {
-        return false;
-    }
-    all_in(class, part)
+    least <= part.len() && part.len() <= most && all_in(class, part)
 }
 
 // From a least to a most number of c.
+#[tactic(auto, unfolding(crate::specs::Classes::is_code))]
 pub fn is_code(part: &[u8], least: usize, most: usize) -> bool
     ensures { result ≡ is_code least most part.now }
 {
     is_all(Class::C, part, least, most)
 }
 
-fn wide(byte: u8) -> u64
-    ensures { (result ≡ byte) × (result < 256) }
-{
-    byte as u64
-}
-
 // Four bytes of a part as one number, the first of them the lowest.
+#[tactic(auto, using(crate::proofs::Words::half_is))]
 fn half(part: &[u8], at: usize) -> u64
     requires { at + 4 ≤ length part.now }
     ensures { (result ≡ little (take 4 (drop at part.now))) × (result < 4294967296) }
 {
-    wide(part[at])
-        + 256 * wide(part[at + 1])
-        + 65536 * wide(part[at + 2])
-        + 16777216 * wide(part[at + 3])
+    u64::from(part[at])
+        + 256 * u64::from(part[at + 1])
+        + 65536 * u64::from(part[at + 2])
+        + 16777216 * u64::from(part[at + 3])
 }
 
 // Eight bytes of a part as one number: a word, which the machine reads at once.
+#[tactic(auto, using(crate::proofs::Words::word_is))]
 fn word(part: &[u8], at: usize) -> u64
     requires { at + 8 ≤ length part.now }
     ensures { result ≡ little (take 8 (drop at part.now)) }
@@ -139,14 +122,7 @@ fn begins_by_bytes(part: &[u8], key: &[u8]) -> bool
     requires { length key.now ≤ length part.now }
     ensures { result ≡ begins key.now part.now }
 {
-    let mut i = 0;
-    while i < key.len() {
-        if part[i] != key[i] {
-            return false;
-        }
-        i += 1;
-    }
-    true
+    part.iter().zip(key).all(|(byte, wanted)| byte == wanted)
 }
 
 // The same with a key of four to eight bytes: its first four and its last four, which may overlap.
@@ -154,14 +130,12 @@ fn begins_by_halves(part: &[u8], key: &[u8]) -> bool
     requires { (length key.now ≤ length part.now) × (4 ≤ length key.now) × (length key.now ≤ 8) }
     ensures { result ≡ begins key.now part.now }
 {
-    if half(part, 0) != half(key, 0) {
-        return false;
-    }
     let last = key.len() - 4;
-    half(part, last) == half(key, last)
+    half(part, 0) == half(key, 0) && half(part, last) == half(key, last)
 }
 
 // The same with a key of eight bytes or more: a word at a time, and then its last eight bytes, of which some may be known.
+// An own loop, made for speed: the same over `as_chunks` is no faster.
 fn begins_by_words(part: &[u8], key: &[u8]) -> bool
     requires { (length key.now ≤ length part.now) × (8 ≤ length key.now) }
     ensures { result ≡ begins key.now part.now }
@@ -179,43 +153,33 @@ fn begins_by_words(part: &[u8], key: &[u8]) -> bool
 }
 
 // A part of a message begins with a key. Each line is held against many keys, so a longer one is compared several bytes at a time.
+#[tactic(auto, using(crate::proofs::Scans::begins_short))]
 pub fn begins_with(part: &[u8], key: &[u8]) -> bool
     ensures { result ≡ begins key.now part.now }
 {
     if part.len() < key.len() {
         return false;
     }
-    if key.len() < 4 {
-        return begins_by_bytes(part, key);
+    match key.len() {
+        0..=3 => begins_by_bytes(part, key),
+        4..=7 => begins_by_halves(part, key),
+        _ => begins_by_words(part, key),
     }
-    if key.len() < 8 {
-        return begins_by_halves(part, key);
-    }
-    begins_by_words(part, key)
 }
 
 // A part of a message is a key, byte for byte.
+#[tactic(auto, using(crate::proofs::Scans::same_short, crate::proofs::Scans::same_long))]
 pub fn equals(part: &[u8], key: &[u8]) -> bool
     ensures { result ≡ same key.now part.now }
 {
-    if part.len() != key.len() {
-        return false;
-    }
-    begins_with(part, key)
+    part.len() == key.len() && begins_with(part, key)
 }
 
 // How many bytes of a part stand before the first one that is `byte`; all of them where there is none.
 pub fn find(part: &[u8], byte: u8) -> usize
     ensures { result ≡ length (before byte part.now) }
 {
-    let mut i = 0;
-    while i < part.len() {
-        if part[i] == byte {
-            return i;
-        }
-        i += 1;
-    }
-    i
+    part.iter().position(|b| *b == byte).unwrap_or(part.len())
 }
 
 // Puts a part into a lent buffer at a place and answers the place behind it. Where the room is short nothing is put and
@@ -224,30 +188,22 @@ pub fn find(part: &[u8], byte: u8) -> usize
 pub fn put(buf: &mut [u8], at: usize, part: &[u8]) -> usize
     ensures { (result ≡ after buf.old at part.now) × (buf.new ≡ placed buf.old at part.now) }
 {
-    if buf.len() < at {
+    if buf.len() < at || buf.len() - at < part.len() {
         return at;
     }
-    if buf.len() - at < part.len() {
-        return at;
-    }
-    let mut i = 0;
-    while i < part.len() {
-        buf[at + i] = part[i];
-        i += 1;
-    }
-    at + i
+    let end = at + part.len();
+    buf[at..end].copy_from_slice(part);
+    end
 }
 
 // The same of a record's text: only the text is put, and not the zero bytes behind it.
+#[tactic(auto, unfolding(crate::specs::Texts::contents))]
 pub fn put_text(buf: &mut [u8], at: usize, text: Text) -> usize
     ensures { (result ≡ after buf.old at (contents text)) × (buf.new ≡ placed buf.old at (contents text)) }
 {
     let bytes = text.bytes;
     let len = text.len;
-    if 20 <= len {
-        return put(buf, at, &bytes);
-    }
-    put(buf, at, &bytes[..len])
+    put(buf, at, &bytes[..len.min(20)])
 }
 
 impl Text {
@@ -270,27 +226,21 @@ impl Text {
     }
 
     // A text of a record is in form for a slot that takes from `least` to `most` bytes of a class.
+    #[tactic(auto, using(crate::proofs::Laws::rest_of), unfolding(crate::specs::Texts::in_form_of, crate::specs::Texts::contents))]
     pub fn in_form_of(self, class: Class, least: usize, most: usize) -> bool
         ensures { result ≡ in_form_of class least most self }
     {
         let bytes = self.bytes;
         let len = self.len;
-        if 20 < len {
-            return false;
-        }
-        if len < least {
-            return false;
-        }
-        if most < len {
-            return false;
-        }
-        if !all_in(class, &bytes[..len]) {
-            return false;
-        }
-        all_in(Class::Zero, &bytes[len..])
+        len <= 20
+            && least <= len
+            && len <= most
+            && all_in(class, &bytes[..len])
+            && all_in(Class::Zero, &bytes[len..])
     }
 
     // So it is for one that takes c.
+    #[tactic(auto, unfolding(crate::specs::Texts::in_form, crate::specs::Texts::in_form_of))]
     pub fn in_form(self, least: usize, most: usize) -> bool
         ensures { result ≡ in_form least most self }
     {

@@ -1,18 +1,23 @@
-use Prim.Native.Nat.{◌-◌}
-use mathlib.Core.Path.{refl, sym, ◌∙◌}
-use Rattle.bars.specs.Bars.{goes_on}
-use Rattle.bars.proofs.Laws.{words-none, word-front, word-past}
+use mathlib.Core.Path.{sym, ◌∙◌}
+use Rattle.bars.proofs.Laws.{first_word, no_word}
 use Rattle.bars.proofs.goes_on.Goals as goal
 
-pub loop-i-init : goal.loop-i-init
-unfolding goes_on
-loop-i-init c = refl
-
 pub returns-then-begins_with : goal.returns-then-begins_with
-returns-then-begins_with c = word-front _ _ _ c.loop-i.invariant c.loop-i-test.true (sym c.begins_with.ensures ∙ c.if-begins_with.true)
+returns-then-begins_with c =
+    let (size, same) = c.loop-word.invariant in
+    let cut = c.in-Some.ensures.steps.1 in
+    let here = first_word _ _ _ c.args.value.now cut.0 (cut.1 ∙ size) in
+    rw (sym c.begins_with.ensures ∙ c.if-begins_with.true) at here ∙ same
 
-pub loop-i-preserved : goal.loop-i-preserved
-loop-i-preserved c = word-past _ _ _ c.loop-i.invariant c.loop-i-test.true (sym c.begins_with.ensures ∙ c.if-begins_with.false)
+pub loop-word-preserved : goal.loop-word-preserved
+loop-word-preserved c =
+    let (size, same) = c.loop-word.invariant in
+    let steps = c.in-Some.ensures.steps in
+    let cut = steps.1 in
+    let here = first_word _ _ _ c.args.value.now cut.0 (cut.1 ∙ size) in
+    (steps.0 ∙ size, rw (sym c.begins_with.ensures ∙ c.if-begins_with.false) at here ∙ same)
 
 pub returns : goal.returns
-returns c = words-none _ _ _ c.loop-i.invariant c.loop-i-test.false
+returns c =
+    let (size, same) = c.loop-word.invariant in
+    no_word _ c.args.value.now (rw size at c.in-None.ensures.steps.1.0) ∙ same

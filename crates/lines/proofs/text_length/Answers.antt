@@ -1,19 +1,15 @@
-use Prim.Native.Nat.{◌-◌}
-use native.Mathlib.Omega.{arith}
-use Rattle.lines.proofs.Scans.{text-low, text-high, text-more, text-done}
+-- `lines::text_length` meets its contract. Assumes nothing.
+use Rattle.std.proofs.Common.{rules, not}
+use borrow.Author.Tests.{tests}
+use Rattle.std.proofs.lemmas.Iterator.{YieldsList-from_slice}
+use Rattle.std.proofs.lemmas.Iterator.Search.{position_from_yields_List}
+use Rattle.text.specs.Classes.{is_between}
+use Rattle.lines.proofs.Scans.{front-is}
 use Rattle.lines.proofs.text_length.Goals as goal
 
-pub loop-i-init : goal.loop-i-init
-loop-i-init c = (omega arith, λ j h. let z : ⊥ = omega (arith, h) in absurd z)
-
-pub returns-then-byte-lt32 : goal.returns-then-byte-lt32
-returns-then-byte-lt32 c = text-low c.args.part.now _ c.loop-i.invariant.0 c.loop-i.invariant.1 c.if-byte-lt32.true
-
-pub returns-then-byte-gt126 : goal.returns-then-byte-gt126
-returns-then-byte-gt126 c = text-high c.args.part.now _ c.loop-i.invariant.0 c.loop-i.invariant.1 c.if-byte-gt126.true
-
-pub loop-i-preserved : goal.loop-i-preserved
-loop-i-preserved c = (omega arith, text-more c.args.part.now _ c.loop-i.invariant.0 c.loop-i.invariant.1 c.if-byte-lt32.false c.if-byte-gt126.false)
-
 pub returns : goal.returns
-returns c = text-done c.args.part.now _ c.loop-i.invariant.0 c.loop-i.invariant.1 c.loop-i-test.false
+unfolding is_between
+returns c =
+    let part = c.args.part.now in
+    let found = position_from_yields_List (λ x. not (is_between 32 126 x)) _ _ c.position.result c.position.ensures.ran (YieldsList-from_slice part cc) (λ x b q k. search (rules, tests)) in
+    front-is part _ _ found c.unwrap_or.ensures

@@ -10,8 +10,8 @@ returns-then-word c =
     c.args.key.now
     c.args.part.now
     c.requires.0
-    c.shared_slice_known-2-1.given
-    c.shared_slice_known-1.given
+    c.type_inv.key
+    c.type_inv.part
     c.loop-i.i
     8
     (omega arith)
@@ -26,8 +26,8 @@ loop-i-preserved c = (
       c.args.key.now
       c.args.part.now
       c.requires.0
-      c.shared_slice_known-2-1.given
-      c.shared_slice_known-1.given
+      c.type_inv.key
+      c.type_inv.part
       c.loop-i.i
       8
       (omega arith)
@@ -43,8 +43,8 @@ returns c =
     c.args.key.now
     c.args.part.now
     c.requires.0
-    c.shared_slice_known-2-1.given
-    c.shared_slice_known-1.given
+    c.type_inv.key
+    c.type_inv.part
     (length c.args.key.now - 8)
     8
     (omega arith)

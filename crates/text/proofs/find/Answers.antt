@@ -1,16 +1,14 @@
-use Prim.Native.Nat.{◌-◌}
-use native.Mathlib.Omega.{arith}
-use Rattle.text.proofs.Scans.{find-here, find-more, find_none}
+-- `text::find` meets its contract. Assumes nothing.
+use Rattle.std.proofs.Common.{rules, eqb}
+use borrow.Author.Tests.{tests}
+use Rattle.std.proofs.lemmas.Iterator.{YieldsList-from_slice}
+use Rattle.std.proofs.lemmas.Iterator.Search.{position_from_yields_List}
+use Rattle.text.proofs.Scans.{find-is}
 use Rattle.text.proofs.find.Goals as goal
 
-pub loop-i-init : goal.loop-i-init
-loop-i-init c = (omega arith, omega arith)
-
-pub returns-then-part-i : goal.returns-then-part-i
-returns-then-part-i c = find-here _ _ _ c.loop-i.invariant.1 c.loop-i-test.true c.if-part-i.true
-
-pub loop-i-preserved : goal.loop-i-preserved
-loop-i-preserved c = (omega arith, find-more _ _ _ c.loop-i.invariant.1 c.loop-i-test.true c.if-part-i.false)
-
 pub returns : goal.returns
-returns c = find_none _ _ _ c.loop-i.invariant.1 c.loop-i-test.false
+returns c =
+    let byte = c.args.byte in
+    let part = c.args.part.now in
+    let found = position_from_yields_List (λ x. eqb x byte) _ _ c.position.result c.position.ensures.ran (YieldsList-from_slice part cc) (λ x b q k. search (rules, tests)) in
+    find-is byte part _ _ found c.unwrap_or.ensures
