@@ -108,21 +108,16 @@ pub fn mark(seen: &mut [u8], slot: usize)
 pub fn lacks_one(table: &[u8], row: usize, seen: &[u8]) -> bool
     ensures { result ≡ lacks seen.now (drop row (rows_of table.now)) }
 {
-    let rows = table.len() / 16;
-    let mut i = row;
-    while i < rows {
+    for i in row..table.len() / 16 {
         let at = i * 16;
         let kind = table[at];
         if kind == 8 {
             if !is_seen(seen, table[at + 1] as usize) {
                 return true;
             }
-        } else if kind < 1 {
-            return false;
-        } else if 11 < kind {
+        } else if kind < 1 || 11 < kind {
             return false;
         }
-        i += 1;
     }
     false
 }
@@ -443,12 +438,10 @@ fn look_at(
 pub fn next_step(table: &[u8], here: Place, seen: &[u8], line: &[u8]) -> Step
     ensures { result ≡ step_of (rows_of table.now) here seen.now line.now }
 {
-    let rows = table.len() / 16;
-    let mut row = here.row;
     let mut deep = 0;
     let mut unmarked = false;
     let mut passed = false;
-    while row < rows {
+    for row in here.row..table.len() / 16 {
         match look_at(table, row, seen, line, here, deep, unmarked, passed) {
             Look::Decided(step) => return step,
             Look::Further(d, u, p) => {
@@ -457,7 +450,6 @@ pub fn next_step(table: &[u8], here: Place, seen: &[u8], line: &[u8]) -> Step
                 passed = p;
             }
         }
-        row += 1;
     }
     refuse(here, NO_SLOT)
 }

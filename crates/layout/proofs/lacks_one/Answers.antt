@@ -1,4 +1,4 @@
-use Prim.Native.Nat.{◌+◌, ◌*◌, ◌-◌}
+use Prim.Native.Nat.{◌+◌, ◌*◌}
 use mathlib.Core.Path.{ap}
 use mathlib.Core.Bool.{not}
 use mathlib.Core.Logic.{inl, inr}
@@ -18,12 +18,8 @@ returns-then-not-is_seen c =
 pub returns-then-kind-lt1 : goal.returns-then-kind-lt1
 returns-then-kind-lt1 c =
     let a = c.args in
-    lacks-end a.seen.now a.table.now a.row c.loop-i.i c.loop-i.invariant c.loop-i-test.true (inl (omega arith))
-
-pub returns-then-kind-gt11 : goal.returns-then-kind-gt11
-returns-then-kind-gt11 c =
-    let a = c.args in
-    lacks-end a.seen.now a.table.now a.row c.loop-i.i c.loop-i.invariant c.loop-i-test.true (inr c.if-kind-gt11.true)
+    let end = lacks-end a.seen.now a.table.now a.row c.loop-i.i c.loop-i.invariant c.loop-i-test.true in
+    elim c.then-kind-lt1.either [ inl l ↦ end (inl (omega arith)) | inr h ↦ end (inr h.1) ]
 
 pub loop-i-preserved : goal.loop-i-preserved
 loop-i-preserved c =
