@@ -227,11 +227,9 @@ fn see(
 pub fn row_for(table: &[u8], here: Place, seen: &[u8], text: &[u8]) -> Fit
     ensures { Fitted (rows_of table.now) here seen.now text.now result }
 {
-    let rows = table.len() / 16;
-    let mut row = here.row;
     let mut deep = 0;
     let mut unmarked = false;
-    while row < rows {
+    for row in here.row..table.len() / 16 {
         match see(table, row, seen, text, here, deep, unmarked) {
             Glimpse::Edge(step, width) => return Fit::Edge(step, width),
             Glimpse::Field(step, width) => return Fit::Field(step, width),
@@ -241,7 +239,6 @@ pub fn row_for(table: &[u8], here: Place, seen: &[u8], text: &[u8]) -> Fit
             }
             Glimpse::Not => return Fit::Not,
         }
-        row += 1;
     }
     Fit::Not
 }
