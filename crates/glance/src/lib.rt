@@ -116,9 +116,7 @@ fn take_header(
     ensures { HeadSays (slot_at slots.now) header.now text.now starts.old ends.old starts.new ends.new result }
 {
     let mut at = 0;
-    let mut i = 0;
-    while i < header.len() {
-        let slot = header[i];
+    for &slot in header {
         if slot == 0 {
             return Width::Not;
         }
@@ -130,7 +128,6 @@ fn take_header(
         };
         walk::keep(slots, starts, ends, slot as usize, at, at + n);
         at = next;
-        i += 1;
     }
     Width::Is(at)
 }
