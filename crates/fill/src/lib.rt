@@ -169,10 +169,8 @@ pub fn put_rows<'a>(
         off: 0,
         many: count,
     };
-    let mut row = 0;
-    while row < count {
+    for row in 0..count {
         here = put_next(buf, rows, row, here, slots, optional, text, starts, ends);
-        row += 1;
     }
     here.at
 }

@@ -82,10 +82,8 @@ fn any_value<'a>(
 ) -> bool
     ensures { result ≡ any_rows (behind_at (lent slots.now optional.now text.now starts.now ends.now)) 1 (drop row (rows_of rows.now)) }
 {
-    let count = rows.len() / 16;
-    let mut i = row;
     let mut deep = 1;
-    while i < count {
+    for i in row..rows.len() / 16 {
         if deep == 0 {
             return false;
         }
@@ -95,7 +93,6 @@ fn any_value<'a>(
             return true;
         }
         deep = deeper(kind, deep);
-        i += 1;
     }
     false
 }
