@@ -6,4 +6,4 @@ use Rattle.answer.proofs.Reasons.{so_far}
 use Rattle.answer.proofs.reasons_in.Given as goal
 
 abbrev pub invariant-loop-k : goal.invariant-loop-k
-invariant-loop-k l = (l.k ≤ 10) × (l.reason-items ≡ so_far (stretch_of l.message l.starts l.ends) l.k)
+invariant-loop-k l = l.reason-items ≡ so_far (stretch_of l.message l.starts l.ends) l.k
