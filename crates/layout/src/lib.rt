@@ -6,13 +6,51 @@
 ghost use Rattle.std.specs.Prelude.{◌≡◌, ◌*◌, ◌+◌, ◌/◌, ◌^◌, ◌≤◌, ◌<◌, eqb, length, drop, set, true, cond, ◌&&◌, ◌||◌, []};
 ghost use Rattle.text.specs.Bytes.{begins, same};
 ghost use Rattle.bars.specs.Bars.{surplus, strays};
-ghost use Rattle.layout.specs.Rows.{key_of, text_at, first_row, rows_of, next_key, field, opens, bar};
+ghost use Rattle.layout.specs.Rows.{kind_of, key_of, text_at, first_row, rows_of, next_key, field, opens, bar};
 ghost use Rattle.layout.specs.Layout.{wrong, moves, takes, fits_or9, enters, is_seen, lacks, beneath, against, look, step_of};
 
 // The numbers of document 01: the line fits no slot from here on, and a mandatory one was passed over.
 const NO_SLOT: u64 = 8;
 
 const PASSED_OVER: u64 = 9;
+
+// The kind of a row, as its byte numbers it from 0; any other number is the end of many blocks too.
+#[derive(Clone, Copy, PartialEq, Eq)]
+pub enum Kind {
+    End,
+    Field,
+    MayField,
+    Opens,
+    MayOpen,
+    Closes,
+    Many,
+    OneMore,
+    Mark,
+    ManyClose,
+    Surplus,
+    Only,
+}
+
+impl Kind {
+    pub fn of(byte: u8) -> Kind
+        ensures { result ≡ kind_of byte }
+    {
+        match byte {
+            1 => Kind::Field,
+            2 => Kind::MayField,
+            3 => Kind::Opens,
+            4 => Kind::MayOpen,
+            5 => Kind::Closes,
+            6 => Kind::Many,
+            7 => Kind::OneMore,
+            8 => Kind::Mark,
+            9 => Kind::ManyClose,
+            10 => Kind::Surplus,
+            11 => Kind::Only,
+            _ => Kind::End,
+        }
+    }
+}
 
 // A place in the table: the next row, and the row to come back to behind one of many blocks.
 #[derive(Clone, Copy)]
@@ -69,10 +107,8 @@ pub fn next_key(table: &[u8], row: usize) -> &[u8]
     if rows <= row {
         return &table[..0];
     }
-    let kind = table[row * 16];
-    match kind {
-        1 => key(table, row),
-        2 => key(table, row),
+    match Kind::of(table[row * 16]) {
+        Kind::Field | Kind::MayField => key(table, row),
         _ => &table[..0],
     }
 }
@@ -110,13 +146,14 @@ pub fn lacks_one(table: &[u8], row: usize, seen: &[u8]) -> bool
 {
     for i in row..table.len() / 16 {
         let at = i * 16;
-        let kind = table[at];
-        if kind == 8 {
-            if !is_seen(seen, table[at + 1] as usize) {
-                return true;
+        match Kind::of(table[at]) {
+            Kind::Mark => {
+                if !is_seen(seen, table[at + 1] as usize) {
+                    return true;
+                }
             }
-        } else if kind < 1 || 11 < kind {
-            return false;
+            Kind::End => return false,
+            _ => {}
         }
     }
     false
@@ -311,25 +348,24 @@ fn look_against(
     requires { row < length table.now / 16 }
     ensures { result ≡ against here seen.now line.now row (drop (row + 1) (rows_of table.now)) unmarked passed (first_row (drop (row * 16) table.now)) }
 {
-    let kind = table[row * 16];
     let slot = table[row * 16 + 1] as usize;
     let text = key(table, row);
-    match kind {
-        1 => look_field(row, slot, text, true, line, here, unmarked, passed),
-        2 => look_field(row, slot, text, false, line, here, unmarked, passed),
-        3 => look_opens(row, text, true, line, here, unmarked, passed),
-        4 => look_opens(row, text, false, line, here, unmarked, passed),
-        5 => look_closes(row + 1, text, line, here, passed),
-        6 => look_many(row, text, true, false, line, here, unmarked, passed),
-        7 => {
+    match Kind::of(table[row * 16]) {
+        Kind::Field => look_field(row, slot, text, true, line, here, unmarked, passed),
+        Kind::MayField => look_field(row, slot, text, false, line, here, unmarked, passed),
+        Kind::Opens => look_opens(row, text, true, line, here, unmarked, passed),
+        Kind::MayOpen => look_opens(row, text, false, line, here, unmarked, passed),
+        Kind::Closes => look_closes(row + 1, text, line, here, passed),
+        Kind::Many => look_many(row, text, true, false, line, here, unmarked, passed),
+        Kind::OneMore => {
             let lacking = lacks_one(table, row + 1, seen);
             look_many(row, text, lacking, lacking, line, here, unmarked, passed)
         }
-        8 => look_mark(row, slot, text, is_seen(seen, slot), line, here, passed),
-        9 => look_closes(here.back, text, line, here, passed),
-        10 => look_surplus(slot as u64, text, line, here, unmarked, passed),
-        11 => look_only(text, next_key(table, row + 1), line, here, unmarked, passed),
-        _ => Look::Decided(refuse(here, NO_SLOT)),
+        Kind::Mark => look_mark(row, slot, text, is_seen(seen, slot), line, here, passed),
+        Kind::ManyClose => look_closes(here.back, text, line, here, passed),
+        Kind::Surplus => look_surplus(slot as u64, text, line, here, unmarked, passed),
+        Kind::Only => look_only(text, next_key(table, row + 1), line, here, unmarked, passed),
+        Kind::End => Look::Decided(refuse(here, NO_SLOT)),
     }
 }
 
@@ -390,26 +426,22 @@ fn look_beneath(
     requires { (row < length table.now / 16) × (0 < deep) × (deep ≤ row) }
     ensures { result ≡ beneath here line.now deep unmarked passed (first_row (drop (row * 16) table.now)) }
 {
-    let kind = table[row * 16];
-    match kind {
-        1 => look_inside(key(table, row), line, here, deep, unmarked, passed),
-        2 => look_inside(key(table, row), line, here, deep, unmarked, passed),
-        3 => Look::Further(deep + 1, unmarked, passed),
-        4 => Look::Further(deep + 1, unmarked, passed),
-        5 => Look::Further(deep - 1, unmarked, passed),
-        6 => Look::Further(deep + 1, unmarked, passed),
-        7 => Look::Further(deep + 1, unmarked, passed),
-        8 => Look::Further(deep + 1, unmarked, passed),
-        9 => {
+    match Kind::of(table[row * 16]) {
+        Kind::Field | Kind::MayField => {
+            look_inside(key(table, row), line, here, deep, unmarked, passed)
+        }
+        Kind::Opens | Kind::MayOpen | Kind::Many | Kind::OneMore | Kind::Mark => {
+            Look::Further(deep + 1, unmarked, passed)
+        }
+        Kind::ManyClose => {
             if closes_bare(key(table, row), line, deep, unmarked) {
                 Look::Decided(refuse(here, PASSED_OVER))
             } else {
                 Look::Further(deep - 1, unmarked, passed)
             }
         }
-        10 => Look::Further(deep, unmarked, passed),
-        11 => Look::Further(deep, unmarked, passed),
-        _ => Look::Further(deep - 1, unmarked, passed),
+        Kind::Surplus | Kind::Only => Look::Further(deep, unmarked, passed),
+        Kind::Closes | Kind::End => Look::Further(deep - 1, unmarked, passed),
     }
 }
 
