@@ -9,15 +9,15 @@ use mathlib.Core.Logic.{◌⊎◌, inl, inr}
 use native.Mathlib.Omega.{arith}
 use lib.ListN.{length, take, drop, get_or, get_or-eq_default}
 use lib.Seq.{drop-drop, get_or-drop}
-use Rattle.layout.specs.Rows.{Row, ends, next_key, row_of, kind_of, key_of, first_row, rows_of}
+use Rattle.layout.specs.Rows.{Row, next_key, kind_of, key_of, first_row, rows_of}
 use Rattle.layout.specs.Layout.{is_seen, lacks, look, onward, scan, step_of, wrong}
 use Rattle.layout.specs.declared.Place.{Place}
 use Rattle.layout.specs.declared.Step.{Step}
 use Rattle.layout.specs.declared.Look.{Look}
 use Rattle.layout.specs.declared.Look.TheVariants.{Decided, Further}
 use Rattle.layout.specs.declared.Kind.{Kind}
-use Rattle.layout.proofs.ByKind.{NoneTo, none-past, row_as, of_kind}
-use Rattle.layout.proofs.Laws.{row_next, row-none, row_at, look-deeper}
+use Rattle.layout.proofs.ByKind.{row_as, of_kind}
+use Rattle.layout.proofs.Laws.{row_next, row-none, look-deeper}
 
 -- ---- the bytes of a row
 
@@ -28,24 +28,11 @@ key-at t at =
     let e : at + 3 + n - (at + 3) ≡ n = omega arith in
     rw (e, get_or-drop at t 2 0, drop-drop 3 at t)
 
--- the row of a kind, from its bytes
-pub row-of : (t : List ℕ) (at kind : ℕ) (key : List ℕ) → get_or t at 0 ≡ kind → key ≡ key_of (drop at t) → first_row (drop at t) ≡ row_of kind (get_or t (at + 1) 0) key
-row-of t at kind key e k = row_at t at ∙ rw (e, k)
-
 pub unseen : (seen : List ℕ) (slot : ℕ) → length seen ≤ slot → false ≡ is_seen seen slot
 unfolding is_seen
 unseen seen slot h = rw (get_or-eq_default seen 0 h)
 
 -- ---- the kinds of rows
-
--- a number that is none of the kinds is the end of many blocks
-ends-out : (slot : ℕ) (key : List ℕ) (k : ℕ) → (k ≡ 0) ⊎ (11 < k) → row_of k slot key ≡ ends
-unfolding row_of
-ends-out slot key k (inl e) = rw e
-ends-out slot key k (inr h) = rw (get_or-eq_default _ ends h)
-
-pub ends_at : (t : List ℕ) (at : ℕ) → NoneTo 11 (get_or t at 0) → first_row (drop at t) ≡ ends
-ends_at t at n = row_at t at ∙ ends-out _ _ _ (none-past 11 _ n)
 
 -- a row that is no mark and no end says nothing of the marks
 lacks-plain : (seen : List ℕ) (rows : List Row) (slot : ℕ) (key : List ℕ) (k : Kind) → (k ≡ Kind.Mark → ⊥) → (k ≡ Kind.End → ⊥)
