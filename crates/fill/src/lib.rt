@@ -2,8 +2,8 @@
 //
 // The values are lent as reading keeps them: a text, and for each slot where its value begins and ends. With them a message type
 // lends the bytes of its table and of its slots, and the numbers of the slots that are optional; nothing here knows a record. All
-// are parameters wherever a slot is looked up, since a struct of references is none of the forms that can be proved. What is right
-// stands in specs/Filling and specs/Runs; specs/Steps serves the steps in between.
+// are parameters wherever a slot is looked up: a clause would have to say of each field of a struct of references at which moment it
+// is meant, which is no plainer. What is right stands in specs/Filling and specs/Runs; specs/Steps serves the steps in between.
 #![tactic(auto)]
 
 mod parts;

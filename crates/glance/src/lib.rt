@@ -164,6 +164,7 @@ fn take_body(
     let mut last = from;
     let mut stop = from;
     let mut at = from;
+    // The step of each line says the row that the next is looked for from: no `for` is plainer.
     while here.row < count {
         let taken = see(&text[at..], rows, slots, here, &seen);
         if !taken.told {
