@@ -13,7 +13,9 @@ ghost use Rattle.std.specs.Prelude.{◌≡◌, [], ◌∷◌, ◌*◌, ◌/◌, 
 ghost use Rattle.layout.specs.Rows.{text_at};
 ghost use Rattle.fill.specs.Runs.{over_run, behind_run};
 ghost use Rattle.fill.specs.Filling.{lent, is_any, with_ending, filling};
-ghost use Rattle.fill.specs.Steps.{is_held, is_edge, Next};
+ghost use Rattle.fill.specs.Steps.{number, number_at, is_held, is_edge, Next};
+
+use layout::Kind;
 
 // Where the walk is: the place in the buffer, the blocks since one that does not stand, and the row of the last many blocks; before the
 // first of them that is behind the last row, which has no text.
@@ -25,20 +27,23 @@ struct Walk {
 }
 
 // The row of the last many blocks.
-fn last_many(kind: u8, row: usize, many: usize) -> usize
-    ensures { result ≡ cond (is_any (6 ∷ 7 ∷ []) kind) row many }
+fn last_many(kind: Kind, row: usize, many: usize) -> usize
+    ensures { result ≡ cond (is_any (6 ∷ 7 ∷ []) (number kind)) row many }
 {
-    if parts::either(kind, 6, 7) { row } else { many }
+    match kind {
+        Kind::Many | Kind::OneMore => row,
+        _ => many,
+    }
 }
 
 // In front of the first field of one of many blocks stands the first line of the last many blocks.
-fn put_first(buf: &mut [u8], at: usize, kind: u8, rows: &[u8], many: usize) -> usize
-    ensures { (result ≡ behind_run buf.old at (cond (eqb kind 8) (with_ending (text_at rows.now many)) [])) × (buf.new ≡ over_run buf.old at (cond (eqb kind 8) (with_ending (text_at rows.now many)) [])) }
+fn put_first(buf: &mut [u8], at: usize, kind: Kind, rows: &[u8], many: usize) -> usize
+    ensures { (result ≡ behind_run buf.old at (cond (eqb (number kind) 8) (with_ending (text_at rows.now many)) [])) × (buf.new ≡ over_run buf.old at (cond (eqb (number kind) 8) (with_ending (text_at rows.now many)) [])) }
 {
-    if kind != 8 {
-        return at;
+    match kind {
+        Kind::Mark => parts::put_edge(buf, at, layout::row_text(rows, many)),
+        _ => at,
     }
-    parts::put_edge(buf, at, layout::row_text(rows, many))
 }
 
 // A row with a slot, where all blocks around it stand. Its value is looked up once, and the first line of many blocks only where
@@ -54,12 +59,12 @@ fn put_held<'a>(
     starts: &'a [usize],
     ends: &'a [usize],
 ) -> Walk
-    requires { (row < length rows.now / 16) × (is_held (get_or rows.now (row * 16) 0) ≡ true) }
+    requires { (row < length rows.now / 16) × (is_held (number_at rows.now row) ≡ true) }
     ensures { Next (lent slots.now optional.now text.now starts.now ends.now) rows.now row 0 here.many buf.old here.at buf.new result.at result.off result.many }
 {
     let at = here.at;
     let many = here.many;
-    let kind = rows[row * 16];
+    let kind = Kind::of(rows[row * 16]);
     let slot = rows[row * 16 + 1];
     let value = parts::value_of(text, starts, ends, slot);
     let front = parts::front(slots, optional, slot, value.len());
@@ -91,12 +96,12 @@ fn put_block<'a>(
     starts: &'a [usize],
     ends: &'a [usize],
 ) -> Walk
-    requires { (row < length rows.now / 16) × (is_held (get_or rows.now (row * 16) 0) ≡ false) × (is_edge (get_or rows.now (row * 16) 0) ≡ true) }
+    requires { (row < length rows.now / 16) × (is_held (number_at rows.now row) ≡ false) × (is_edge (number_at rows.now row) ≡ true) }
     ensures { Next (lent slots.now optional.now text.now starts.now ends.now) rows.now row 0 here.many buf.old here.at buf.new result.at result.off result.many }
 {
     let at = here.at;
     let many = here.many;
-    let kind = rows[row * 16];
+    let kind = Kind::of(rows[row * 16]);
     if !standing::is_open(kind, rows, row, slots, optional, text, starts, ends) {
         return Walk {
             at,
@@ -127,7 +132,7 @@ fn put_next<'a>(
     requires { (row < length rows.now / 16) × (here.off ≤ row) }
     ensures { Next (lent slots.now optional.now text.now starts.now ends.now) rows.now row here.off here.many buf.old here.at buf.new result.at result.off result.many }
 {
-    let kind = rows[row * 16];
+    let kind = Kind::of(rows[row * 16]);
     let at = here.at;
     let many = here.many;
     if here.off != 0 {
@@ -137,16 +142,18 @@ fn put_next<'a>(
             many: last_many(kind, row, many),
         };
     }
-    if parts::is_held(kind) {
-        return put_held(buf, rows, row, here, slots, optional, text, starts, ends);
-    }
-    if parts::is_edge(kind) {
-        return put_block(buf, rows, row, here, slots, optional, text, starts, ends);
-    }
-    Walk {
-        at,
-        off: 0,
-        many: last_many(kind, row, many),
+    match kind {
+        Kind::Field | Kind::MayField | Kind::Mark => {
+            put_held(buf, rows, row, here, slots, optional, text, starts, ends)
+        }
+        Kind::Opens | Kind::MayOpen | Kind::Closes | Kind::ManyClose => {
+            put_block(buf, rows, row, here, slots, optional, text, starts, ends)
+        }
+        Kind::Many | Kind::OneMore | Kind::Surplus | Kind::Only | Kind::End => Walk {
+            at,
+            off: 0,
+            many: last_many(kind, row, many),
+        },
     }
 }
 
