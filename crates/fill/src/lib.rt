@@ -62,25 +62,22 @@ fn put_held<'a>(
     requires { (row < length rows.now / 16) × (is_held (number_at rows.now row) ≡ true) }
     ensures { Next (lent slots.now optional.now text.now starts.now ends.now) rows.now row 0 here.many buf.old here.at buf.new result.at result.off result.many }
 {
-    let at = here.at;
-    let many = here.many;
     let kind = Kind::of(rows[row * 16]);
     let slot = rows[row * 16 + 1];
     let value = parts::value_of(text, starts, ends, slot);
     let front = parts::front(slots, optional, slot, value.len());
     if !standing::has_line(kind, front, value) {
         return Walk {
-            at,
             off: standing::deeper(kind, 0),
-            many,
+            ..here
         };
     }
-    let from = put_first(buf, at, kind, rows, many);
+    let from = put_first(buf, here.at, kind, rows, here.many);
     let behind = parts::put_line(buf, from, layout::row_text(rows, row), front, value);
     Walk {
         at: behind,
         off: 0,
-        many,
+        ..here
     }
 }
 
@@ -99,21 +96,18 @@ fn put_block<'a>(
     requires { (row < length rows.now / 16) × (is_held (number_at rows.now row) ≡ false) × (is_edge (number_at rows.now row) ≡ true) }
     ensures { Next (lent slots.now optional.now text.now starts.now ends.now) rows.now row 0 here.many buf.old here.at buf.new result.at result.off result.many }
 {
-    let at = here.at;
-    let many = here.many;
     let kind = Kind::of(rows[row * 16]);
     if !standing::is_open(kind, rows, row, slots, optional, text, starts, ends) {
         return Walk {
-            at,
             off: standing::deeper(kind, 0),
-            many,
+            ..here
         };
     }
-    let behind = parts::put_edge(buf, at, layout::row_text(rows, row));
+    let behind = parts::put_edge(buf, here.at, layout::row_text(rows, row));
     Walk {
         at: behind,
         off: 0,
-        many,
+        ..here
     }
 }
 
@@ -133,13 +127,11 @@ fn put_next<'a>(
     ensures { Next (lent slots.now optional.now text.now starts.now ends.now) rows.now row here.off here.many buf.old here.at buf.new result.at result.off result.many }
 {
     let kind = Kind::of(rows[row * 16]);
-    let at = here.at;
-    let many = here.many;
     if here.off != 0 {
         return Walk {
-            at,
             off: standing::deeper(kind, here.off),
-            many: last_many(kind, row, many),
+            many: last_many(kind, row, here.many),
+            ..here
         };
     }
     match kind {
@@ -150,9 +142,8 @@ fn put_next<'a>(
             put_block(buf, rows, row, here, slots, optional, text, starts, ends)
         }
         Kind::Many | Kind::OneMore | Kind::Surplus | Kind::Only | Kind::End => Walk {
-            at,
-            off: 0,
-            many: last_many(kind, row, many),
+            many: last_many(kind, row, here.many),
+            ..here
         },
     }
 }
