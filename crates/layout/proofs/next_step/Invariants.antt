@@ -8,4 +8,4 @@ use Rattle.layout.specs.Rows.{rows_of}
 use Rattle.layout.proofs.next_step.Given as goal
 
 abbrev pub invariant-loop-row : goal.invariant-loop-row
-invariant-loop-row l = (l.deep ≤ l.row) × (scan l.here l.seen l.line l.row (drop l.row (rows_of l.table)) l.deep l.unmarked l.passed ≡ step_of (rows_of l.table) l.here l.seen l.line)
+invariant-loop-row l = (l.way.here ≡ l.here) × (l.way.deep ≤ l.row) × (scan l.here l.seen l.line l.row (drop l.row (rows_of l.table)) l.way.deep l.way.unmarked l.way.passed ≡ step_of (rows_of l.table) l.here l.seen l.line)
