@@ -122,10 +122,8 @@ fn reasons_in<'a, 'b>(message: &'a [u8], starts: &'b [usize], ends: &'b [usize])
 {
     let reason = Reason::BLANK;
     let mut reasons = [reason; 10];
-    let mut k = 0;
-    while k < 10 {
-        reasons[k] = reason_in(message, starts, ends, 12 + 2 * k, 13 + 2 * k);
-        k += 1;
+    for (k, reason) in reasons.iter_mut().enumerate() {
+        *reason = reason_in(message, starts, ends, 12 + 2 * k, 13 + 2 * k);
     }
     reasons
 }

@@ -47,14 +47,12 @@ fn reasons_form(answer: Answer) -> bool
     ensures { result ≡ hold (reason_tests answer true 12 0 10) }
 {
     let mut before = true;
-    let mut number = 0;
-    while number < 10 {
+    for number in 0..10 {
         let reason = answer::reason_at(answer, number);
         if !reason_form(reason, before) {
             return false;
         }
         before = 0 < reason.code.len;
-        number += 1;
     }
     true
 }

@@ -99,8 +99,7 @@ fn put_codes(line: &mut [u8], at: usize, answer: Answer) -> usize
 {
     let mut end = at;
     let mut between = b' ';
-    let mut number = 0;
-    while number < 10 {
+    for number in 0..10 {
         let reason = answer::reason_at(answer, number);
         let code = reason.code;
         if code.len == 0 {
@@ -108,7 +107,6 @@ fn put_codes(line: &mut [u8], at: usize, answer: Answer) -> usize
         }
         end = put_code(line, end, between, code);
         between = b',';
-        number += 1;
     }
     end
 }

@@ -31,11 +31,9 @@ pub(crate) fn put_reasons(text: &mut [u8], places: &mut [usize], at: usize, answ
         × (length (flatten (reason_values answer 0 10)) ≤ 550) }
 {
     let mut behind = at;
-    let mut number = 0;
-    while number < 10 {
+    for number in 0..10 {
         let reason = answer::reason_at(answer, number);
         behind = put_reason(text, places, behind, 13 + 2 * number, reason);
-        number += 1;
     }
     behind
 }

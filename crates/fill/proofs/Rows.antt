@@ -3,22 +3,23 @@
 -- Assumes nothing.
 use Prim.Native.Nat.{ℕ, zero, suc, ◌+◌, ◌-◌, ◌*◌, ◌/◌, ◌≤◌, ◌<◌}
 use mathlib.Core.Path.{◌≡◌, refl, sym, ap, ◌∙◌}
-use mathlib.Core.Bool.{Bool, true, false, ◌&&◌, ◌||◌, not, cond, or-false}
+use mathlib.Core.Bool.{Bool, true, false, ◌&&◌, ◌||◌, not, cond}
 use mathlib.Core.List.{List, [], ◌∷◌, ◌++◌}
 use native.Mathlib.Omega.{arith}
 use lib.Dec.{leb, ltb, eqb}
-use lib.ListN.{length, drop, get_or, length-append}
+use lib.ListN.{length, drop, get_or, length-append, get_or-eq_default}
 use borrow.Author.Tests.{leb-true, ne_eqb, lt-ltb, le-ltb, ltb-true, ltb-false}
 use Rattle.text.specs.Bytes.{before}
 use Rattle.text.proofs.Laws.{and_left, and_right}
 use Rattle.text.proofs.Bools.{eqb-turn}
-use Rattle.layout.specs.Rows.{Row, field, opens, closes, many, mark, back, ends, bar, row_of, text_at, first_row, rows_of}
+use Rattle.layout.specs.Rows.{Row, field, opens, closes, many, mark, back, ends, bar, row_of, kind_of, text_at, first_row, rows_of}
 use Rattle.layout.proofs.ByKind.{by_kind}
 use Rattle.layout.proofs.Laws.{row_next, row-none, row_at, text_at_lem, text-none}
 use Rattle.sheets.specs.Filled.{some}
 use Rattle.fill.specs.Runs.{over_run, behind_run}
 use Rattle.fill.specs.Filling.{is_any, with_ending, held_parts, lower, deeper, has_value, any_rows, stands, opener, puts, walk}
-use Rattle.fill.specs.Steps.{is_held, is_edge, line_parts, is_on, next_parts, next_off}
+use Rattle.layout.specs.declared.Kind.{Kind}
+use Rattle.fill.specs.Steps.{number, number_at, is_held, is_edge, line_parts, is_on, next_parts, next_off}
 use Rattle.fill.proofs.Runs.{Run, then, none-run, over-append, behind-append, length_run}
 use Rattle.fill.proofs.Trees.{any_none}
 
@@ -40,9 +41,6 @@ found (n ∷ ns) s = rw (eqb-turn s n) (go (found ns s) (eqb n s))
     go : ltb (length (before s ns)) (length ns) ≡ is_any ns s → (t : Bool) → ltb (length (cond t [] (n ∷ before s ns))) (suc (length ns)) ≡ (t || is_any ns s)
     go ih true = lt-ltb 0 (suc (length ns)) (omega arith)
     go ih false = ltb_next (length (before s ns)) (length ns) ∙ ih
-
-pub either_is : (n a b : ℕ) → (eqb n a || eqb n b) ≡ is_any (a ∷ b ∷ []) n
-either_is n a b = ap (λ (t : Bool). eqb n a || t) (sym (or-false (eqb n b)))
 
 -- ---- what stands behind the text of a slot
 
@@ -128,9 +126,35 @@ many_by n =
 
 -- ---- a row further
 
--- a row of a table's bytes, by its kind, its slot and its text
-row_is : (t : List ℕ) (row : ℕ) → row < length t / 16 → first_row (drop (row * 16) t) ≡ row_of (get_or t (row * 16) 0) (get_or t (row * 16 + 1) 0) (text_at t row)
-row_is t row h = row_at t (row * 16) ∙ rw (text_at_lem t row h)
+-- a number above all kinds is that of the end
+same_row : (n slot : ℕ) (key : List ℕ) → row_of n slot key ≡ row_of (number (kind_of n)) slot key
+unfolding row_of kind_of
+same_row n slot key =
+    by_kind (λ n r. r ≡ row_of (number (kind_of n)) slot key) slot key refl refl refl refl refl refl refl refl refl refl refl refl
+    (λ n h. rw (get_or-eq_default _ Kind.End h)) n
+
+-- a row of a table's bytes, by the number of its kind, its slot and its text
+row_is : (t : List ℕ) (row : ℕ) → row < length t / 16 → first_row (drop (row * 16) t) ≡ row_of (number_at t row) (get_or t (row * 16 + 1) 0) (text_at t row)
+row_is t row h = row_at t (row * 16) ∙ same_row _ _ _ ∙ rw (text_at_lem t row h)
+
+-- kinds are told apart by their numbers
+numbered : (k : Kind) → kind_of (number k) ≡ k
+unfolding kind_of
+numbered Kind.End = refl
+numbered Kind.Field = refl
+numbered Kind.MayField = refl
+numbered Kind.Opens = refl
+numbered Kind.MayOpen = refl
+numbered Kind.Closes = refl
+numbered Kind.Many = refl
+numbered Kind.OneMore = refl
+numbered Kind.Mark = refl
+numbered Kind.ManyClose = refl
+numbered Kind.Surplus = refl
+numbered Kind.Only = refl
+
+pub apart : (k j : Kind) → (k ≡ j → ⊥) → number k ≡ number j → ⊥
+apart k j h e = h (sym (numbered k) ∙ ap kind_of e ∙ numbered j)
 
 deeper-most : (r : Row) (d : ℕ) → deeper r d ≤ d + 1
 unfolding deeper lower
@@ -160,18 +184,18 @@ module _ (value : ℕ → List ℕ) where
     unfolding any_rows
     any-end h = rw (row-none t i h) at inv
 
-    module _ (h : i < length t / 16) (n : d ≡ 0 → ⊥) (b : Bool) (e : b ≡ has_value value (row_of (get_or t (i * 16) 0) (get_or t (i * 16 + 1) 0) [])) where
-      step : (has_value value (row_of (get_or t (i * 16) 0) (get_or t (i * 16 + 1) 0) []) || any_rows value (deeper (row_of (get_or t (i * 16) 0) 0 []) d) (drop (i + 1) (rows_of t)))
+    module _ (h : i < length t / 16) (n : d ≡ 0 → ⊥) (b : Bool) (e : b ≡ has_value value (row_of (number_at t i) (get_or t (i * 16 + 1) 0) [])) where
+      step : (has_value value (row_of (number_at t i) (get_or t (i * 16 + 1) 0) []) || any_rows value (deeper (row_of (number_at t i) 0 []) d) (drop (i + 1) (rows_of t)))
           ≡ any_rows value 1 (drop row (rows_of t))
       step =
-          let k = get_or t (i * 16) 0 in
+          let k = number_at t i in
           let s = get_or t (i * 16 + 1) 0 in
           sym (rw (row_next t i h, row_is t i h) (any_step d (row_of k s (text_at t i)) (drop (i + 1) (rows_of t)) n ∙ rw (has-by s (text_at t i) value k, ← has-by s [] value k, deeper-by s (text_at t i) k d, ← deeper-by 0 [] k d))) ∙ inv
 
       pub any_found : b ≡ true → true ≡ any_rows value 1 (drop row (rows_of t))
       any_found f = rw (← e, f) at step
 
-      pub any-more : b ≡ false → (d' : ℕ) → d' ≡ deeper (row_of (get_or t (i * 16) 0) 0 []) d → any_rows value d' (drop (i + 1) (rows_of t)) ≡ any_rows value 1 (drop row (rows_of t))
+      pub any-more : b ≡ false → (d' : ℕ) → d' ≡ deeper (row_of (number_at t i) 0 []) d → any_rows value d' (drop (i + 1) (rows_of t)) ≡ any_rows value 1 (drop row (rows_of t))
       any-more f d' g = rw g (rw (← e, f) at step)
 
   pub deep_more : (k d d' i : ℕ) → d ≤ i + 1 → d' ≡ deeper (row_of k 0 []) d → d' ≤ i + 1 + 1
@@ -206,7 +230,7 @@ module _ (value : ℕ → List ℕ) (parts : ℕ → List (List ℕ)) where
 
   module _ (t : List ℕ) (row off place place' : ℕ) (buf : List ℕ) (at : ℕ) (h : row < length t / 16) where
     abbrev pub kind : ℕ
-    kind = get_or t (row * 16) 0
+    kind = number_at t row
 
     abbrev pub slot : ℕ
     slot = get_or t (row * 16 + 1) 0
@@ -251,52 +275,52 @@ module _ (value : ℕ → List ℕ) (parts : ℕ → List (List ℕ)) where
   -- where all blocks around it stand, by the kind of the row
   module _ (t : List ℕ) (row place : ℕ) (buf : List ℕ) (at : ℕ) (h : row < length t / 16) where
     -- with a slot
-    module _ (is : is_held (get_or t (row * 16) 0) ≡ true) (front v : List ℕ) (ve : value (get_or t (row * 16 + 1) 0) ≡ front ++ v) (b : Bool)
-        (e : b ≡ (eqb (get_or t (row * 16) 0) 1 || some (front ++ v))) where
-      held-stands : b ≡ is_on value 0 (drop (row + 1) (rows_of t)) (row_of (get_or t (row * 16) 0) (get_or t (row * 16 + 1) 0) [])
+    module _ (is : is_held (number_at t row) ≡ true) (front v : List ℕ) (ve : value (get_or t (row * 16 + 1) 0) ≡ front ++ v) (b : Bool)
+        (e : b ≡ (eqb (number_at t row) 1 || some (front ++ v))) where
+      held-stands : b ≡ is_on value 0 (drop (row + 1) (rows_of t)) (row_of (number_at t row) (get_or t (row * 16 + 1) 0) [])
       unfolding is_on
-      held-stands = e ∙ rw (stands_by (get_or t (row * 16 + 1) 0) [] value (drop (row + 1) (rows_of t)) (get_or t (row * 16) 0), is, ve)
+      held-stands = e ∙ rw (stands_by (get_or t (row * 16 + 1) 0) [] value (drop (row + 1) (rows_of t)) (number_at t row), is, ve)
 
-      held-many : place ≡ cond (is_any (6 ∷ 7 ∷ []) (get_or t (row * 16) 0)) row place
-      held-many = rw (many_by (get_or t (row * 16) 0), is)
+      held-many : place ≡ cond (is_any (6 ∷ 7 ∷ []) (number_at t row)) row place
+      held-many = rw (many_by (number_at t row), is)
 
       pub held_on : b ≡ true → parts (get_or t (row * 16 + 1) 0) ≡ front ∷ v ∷ [] → (from : ℕ) (between : List ℕ)
-          → Run buf at (cond (eqb (get_or t (row * 16) 0) 8) (with_ending (text_at t place)) []) from between
+          → Run buf at (cond (eqb (number_at t row) 8) (with_ending (text_at t place)) []) from between
           → (key : List ℕ) → key ≡ text_at t row → (at' : ℕ) (buf' : List ℕ) → Run between from (line_parts key front v) at' buf'
           → Next t row 0 place buf at buf' at' 0 place
       held_on g pe from between p key ke at' buf' q =
           next-on t row 0 place place buf at h b held-stands g held-many key (text_at t place) ke refl at' buf'
-          (rw (puts-by (get_or t (row * 16 + 1) 0) key parts (text_at t place) (get_or t (row * 16) 0), is, pe)
-          (then buf at (cond (eqb (get_or t (row * 16) 0) 8) (with_ending (text_at t place)) []) (line_parts key front v) p q))
+          (rw (puts-by (get_or t (row * 16 + 1) 0) key parts (text_at t place) (number_at t row), is, pe)
+          (then buf at (cond (eqb (number_at t row) 8) (with_ending (text_at t place)) []) (line_parts key front v) p q))
 
-      pub held-past : b ≡ false → (off' : ℕ) → off' ≡ deeper (row_of (get_or t (row * 16) 0) 0 []) 0 → Next t row 0 place buf at buf at off' place
+      pub held-past : b ≡ false → (off' : ℕ) → off' ≡ deeper (row_of (number_at t row) 0 []) 0 → Next t row 0 place buf at buf at off' place
       held-past g off' d = next_past t row 0 place place buf at h b held-stands g held-many off' d
 
     -- without one
-    module _ (no : is_held (get_or t (row * 16) 0) ≡ false) where
+    module _ (no : is_held (number_at t row) ≡ false) where
       -- the first or last line of a block
-      module _ (is : is_edge (get_or t (row * 16) 0) ≡ true) (b : Bool) (e : b ≡ cond (eqb (get_or t (row * 16) 0) 4) (any_rows value 1 (drop (row + 1) (rows_of t))) true) where
-        edge-stands : b ≡ is_on value 0 (drop (row + 1) (rows_of t)) (row_of (get_or t (row * 16) 0) (get_or t (row * 16 + 1) 0) [])
+      module _ (is : is_edge (number_at t row) ≡ true) (b : Bool) (e : b ≡ cond (eqb (number_at t row) 4) (any_rows value 1 (drop (row + 1) (rows_of t))) true) where
+        edge-stands : b ≡ is_on value 0 (drop (row + 1) (rows_of t)) (row_of (number_at t row) (get_or t (row * 16 + 1) 0) [])
         unfolding is_on
-        edge-stands = e ∙ rw (stands_by (get_or t (row * 16 + 1) 0) [] value (drop (row + 1) (rows_of t)) (get_or t (row * 16) 0), no, is)
+        edge-stands = e ∙ rw (stands_by (get_or t (row * 16 + 1) 0) [] value (drop (row + 1) (rows_of t)) (number_at t row), no, is)
 
-        edge-many : place ≡ cond (is_any (6 ∷ 7 ∷ []) (get_or t (row * 16) 0)) row place
-        edge-many = rw (many_by (get_or t (row * 16) 0), no, is)
+        edge-many : place ≡ cond (is_any (6 ∷ 7 ∷ []) (number_at t row)) row place
+        edge-many = rw (many_by (number_at t row), no, is)
 
         pub edge_on : b ≡ true → (key : List ℕ) → key ≡ text_at t row → (at' : ℕ) (buf' : List ℕ) → Run buf at (with_ending key) at' buf' → Next t row 0 place buf at buf' at' 0 place
         edge_on g key ke at' buf' q =
             next-on t row 0 place place buf at h b edge-stands g edge-many key (text_at t place) ke refl at' buf'
-            (rw (puts-by (get_or t (row * 16 + 1) 0) key parts (text_at t place) (get_or t (row * 16) 0), no, is) q)
+            (rw (puts-by (get_or t (row * 16 + 1) 0) key parts (text_at t place) (number_at t row), no, is) q)
 
-        pub edge-past : b ≡ false → (off' : ℕ) → off' ≡ deeper (row_of (get_or t (row * 16) 0) 0 []) 0 → Next t row 0 place buf at buf at off' place
+        pub edge-past : b ≡ false → (off' : ℕ) → off' ≡ deeper (row_of (number_at t row) 0 []) 0 → Next t row 0 place buf at buf at off' place
         edge-past g off' d = next_past t row 0 place place buf at h b edge-stands g edge-many off' d
 
       -- no line
-      pub next-none : is_edge (get_or t (row * 16) 0) ≡ false → (place' : ℕ) → place' ≡ cond (is_any (6 ∷ 7 ∷ []) (get_or t (row * 16) 0)) row place → Next t row 0 place buf at buf at 0 place'
+      pub next-none : is_edge (number_at t row) ≡ false → (place' : ℕ) → place' ≡ cond (is_any (6 ∷ 7 ∷ []) (number_at t row)) row place → Next t row 0 place buf at buf at 0 place'
       unfolding is_on
       next-none nor place' o =
-          next-on t row 0 place place' buf at h true (rw (stands_by (get_or t (row * 16 + 1) 0) [] value (drop (row + 1) (rows_of t)) (get_or t (row * 16) 0), no, nor)) refl o (text_at t row) (text_at t place) refl refl at buf
-          (rw (puts-by (get_or t (row * 16 + 1) 0) (text_at t row) parts (text_at t place) (get_or t (row * 16) 0), no, nor) (none-run buf at))
+          next-on t row 0 place place' buf at h true (rw (stands_by (get_or t (row * 16 + 1) 0) [] value (drop (row + 1) (rows_of t)) (number_at t row), no, nor)) refl o (text_at t row) (text_at t place) refl refl at buf
+          (rw (puts-by (get_or t (row * 16 + 1) 0) (text_at t row) parts (text_at t place) (number_at t row), no, nor) (none-run buf at))
 
   -- all rows: what is put from a row on is what is put from the first on
   abbrev pub Same : List ℕ → List ℕ → ℕ → ℕ → ℕ → ℕ → List ℕ → ℕ → Type 0

@@ -1,9 +1,29 @@
 -- The walk of specs/Filling, a row at a time. It serves the private steps only, and need not be believed.
-use Rattle.std.specs.Prelude.{ℕ, ◌+◌, ◌*◌, ◌≡◌, Bool, ◌&&◌, cond, List, [], ◌∷◌, eqb, drop}
+use Rattle.std.specs.Prelude.{ℕ, ◌+◌, ◌*◌, ◌≡◌, Bool, ◌&&◌, cond, List, [], ◌∷◌, eqb, drop, get_or}
 use Rattle.text.specs.Bytes.{bytes}
-use Rattle.layout.specs.Rows.{Row, text_at, first_row, rows_of}
+use Rattle.layout.specs.declared.Kind.{Kind}
+use Rattle.layout.specs.Rows.{Row, kind_of, text_at, first_row, rows_of}
 use Rattle.fill.specs.Runs.{over_run, behind_run}
 use Rattle.fill.specs.Filling.{Lent, is_any, behind_at, parts_at, deeper, stands, opener, puts}
+
+-- the number of a kind in a table's bytes
+abbrev pub number : Kind → ℕ
+number Kind.End = 0
+number Kind.Field = 1
+number Kind.MayField = 2
+number Kind.Opens = 3
+number Kind.MayOpen = 4
+number Kind.Closes = 5
+number Kind.Many = 6
+number Kind.OneMore = 7
+number Kind.Mark = 8
+number Kind.ManyClose = 9
+number Kind.Surplus = 10
+number Kind.Only = 11
+
+-- the kind of a row of a table's bytes
+abbrev pub number_at : List ℕ → ℕ → ℕ
+number_at rows row = number (kind_of (get_or rows (row * 16) 0))
 
 -- the kinds of rows that have a slot, and of the first and last lines of blocks
 abbrev pub is_held : ℕ → Bool

@@ -2,8 +2,8 @@
 //
 // The values are lent as reading keeps them: a text, and for each slot where its value begins and ends. With them a message type
 // lends the bytes of its table and of its slots, and the numbers of the slots that are optional; nothing here knows a record. All
-// are parameters wherever a slot is looked up, since a struct of references is none of the forms that can be proved. What is right
-// stands in specs/Filling and specs/Runs; specs/Steps serves the steps in between.
+// are parameters wherever a slot is looked up: a clause would have to say of each field of a struct of references at which moment it
+// is meant, which is no plainer. What is right stands in specs/Filling and specs/Runs; specs/Steps serves the steps in between.
 #![tactic(auto)]
 
 mod parts;
@@ -13,7 +13,9 @@ ghost use Rattle.std.specs.Prelude.{◌≡◌, [], ◌∷◌, ◌*◌, ◌/◌, 
 ghost use Rattle.layout.specs.Rows.{text_at};
 ghost use Rattle.fill.specs.Runs.{over_run, behind_run};
 ghost use Rattle.fill.specs.Filling.{lent, is_any, with_ending, filling};
-ghost use Rattle.fill.specs.Steps.{is_held, is_edge, Next};
+ghost use Rattle.fill.specs.Steps.{number, number_at, is_held, is_edge, Next};
+
+use layout::Kind;
 
 // Where the walk is: the place in the buffer, the blocks since one that does not stand, and the row of the last many blocks; before the
 // first of them that is behind the last row, which has no text.
@@ -25,20 +27,23 @@ struct Walk {
 }
 
 // The row of the last many blocks.
-fn last_many(kind: u8, row: usize, many: usize) -> usize
-    ensures { result ≡ cond (is_any (6 ∷ 7 ∷ []) kind) row many }
+fn last_many(kind: Kind, row: usize, many: usize) -> usize
+    ensures { result ≡ cond (is_any (6 ∷ 7 ∷ []) (number kind)) row many }
 {
-    if parts::either(kind, 6, 7) { row } else { many }
+    match kind {
+        Kind::Many | Kind::OneMore => row,
+        _ => many,
+    }
 }
 
 // In front of the first field of one of many blocks stands the first line of the last many blocks.
-fn put_first(buf: &mut [u8], at: usize, kind: u8, rows: &[u8], many: usize) -> usize
-    ensures { (result ≡ behind_run buf.old at (cond (eqb kind 8) (with_ending (text_at rows.now many)) [])) × (buf.new ≡ over_run buf.old at (cond (eqb kind 8) (with_ending (text_at rows.now many)) [])) }
+fn put_first(buf: &mut [u8], at: usize, kind: Kind, rows: &[u8], many: usize) -> usize
+    ensures { (result ≡ behind_run buf.old at (cond (eqb (number kind) 8) (with_ending (text_at rows.now many)) [])) × (buf.new ≡ over_run buf.old at (cond (eqb (number kind) 8) (with_ending (text_at rows.now many)) [])) }
 {
-    if kind != 8 {
-        return at;
+    match kind {
+        Kind::Mark => parts::put_edge(buf, at, layout::row_text(rows, many)),
+        _ => at,
     }
-    parts::put_edge(buf, at, layout::row_text(rows, many))
 }
 
 // A row with a slot, where all blocks around it stand. Its value is looked up once, and the first line of many blocks only where
@@ -54,28 +59,25 @@ fn put_held<'a>(
     starts: &'a [usize],
     ends: &'a [usize],
 ) -> Walk
-    requires { (row < length rows.now / 16) × (is_held (get_or rows.now (row * 16) 0) ≡ true) }
+    requires { (row < length rows.now / 16) × (is_held (number_at rows.now row) ≡ true) }
     ensures { Next (lent slots.now optional.now text.now starts.now ends.now) rows.now row 0 here.many buf.old here.at buf.new result.at result.off result.many }
 {
-    let at = here.at;
-    let many = here.many;
-    let kind = rows[row * 16];
+    let kind = Kind::of(rows[row * 16]);
     let slot = rows[row * 16 + 1];
     let value = parts::value_of(text, starts, ends, slot);
     let front = parts::front(slots, optional, slot, value.len());
     if !standing::has_line(kind, front, value) {
         return Walk {
-            at,
             off: standing::deeper(kind, 0),
-            many,
+            ..here
         };
     }
-    let from = put_first(buf, at, kind, rows, many);
+    let from = put_first(buf, here.at, kind, rows, here.many);
     let behind = parts::put_line(buf, from, layout::row_text(rows, row), front, value);
     Walk {
         at: behind,
         off: 0,
-        many,
+        ..here
     }
 }
 
@@ -91,24 +93,21 @@ fn put_block<'a>(
     starts: &'a [usize],
     ends: &'a [usize],
 ) -> Walk
-    requires { (row < length rows.now / 16) × (is_held (get_or rows.now (row * 16) 0) ≡ false) × (is_edge (get_or rows.now (row * 16) 0) ≡ true) }
+    requires { (row < length rows.now / 16) × (is_held (number_at rows.now row) ≡ false) × (is_edge (number_at rows.now row) ≡ true) }
     ensures { Next (lent slots.now optional.now text.now starts.now ends.now) rows.now row 0 here.many buf.old here.at buf.new result.at result.off result.many }
 {
-    let at = here.at;
-    let many = here.many;
-    let kind = rows[row * 16];
+    let kind = Kind::of(rows[row * 16]);
     if !standing::is_open(kind, rows, row, slots, optional, text, starts, ends) {
         return Walk {
-            at,
             off: standing::deeper(kind, 0),
-            many,
+            ..here
         };
     }
-    let behind = parts::put_edge(buf, at, layout::row_text(rows, row));
+    let behind = parts::put_edge(buf, here.at, layout::row_text(rows, row));
     Walk {
         at: behind,
         off: 0,
-        many,
+        ..here
     }
 }
 
@@ -127,26 +126,25 @@ fn put_next<'a>(
     requires { (row < length rows.now / 16) × (here.off ≤ row) }
     ensures { Next (lent slots.now optional.now text.now starts.now ends.now) rows.now row here.off here.many buf.old here.at buf.new result.at result.off result.many }
 {
-    let kind = rows[row * 16];
-    let at = here.at;
-    let many = here.many;
+    let kind = Kind::of(rows[row * 16]);
     if here.off != 0 {
         return Walk {
-            at,
             off: standing::deeper(kind, here.off),
-            many: last_many(kind, row, many),
+            many: last_many(kind, row, here.many),
+            ..here
         };
     }
-    if parts::is_held(kind) {
-        return put_held(buf, rows, row, here, slots, optional, text, starts, ends);
-    }
-    if parts::is_edge(kind) {
-        return put_block(buf, rows, row, here, slots, optional, text, starts, ends);
-    }
-    Walk {
-        at,
-        off: 0,
-        many: last_many(kind, row, many),
+    match kind {
+        Kind::Field | Kind::MayField | Kind::Mark => {
+            put_held(buf, rows, row, here, slots, optional, text, starts, ends)
+        }
+        Kind::Opens | Kind::MayOpen | Kind::Closes | Kind::ManyClose => {
+            put_block(buf, rows, row, here, slots, optional, text, starts, ends)
+        }
+        Kind::Many | Kind::OneMore | Kind::Surplus | Kind::Only | Kind::End => Walk {
+            many: last_many(kind, row, here.many),
+            ..here
+        },
     }
 }
 
@@ -169,10 +167,8 @@ pub fn put_rows<'a>(
         off: 0,
         many: count,
     };
-    let mut row = 0;
-    while row < count {
+    for row in 0..count {
         here = put_next(buf, rows, row, here, slots, optional, text, starts, ends);
-        row += 1;
     }
     here.at
 }

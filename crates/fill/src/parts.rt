@@ -1,30 +1,9 @@
 // What a row puts that stands: the parts of its lines.
-ghost use Rattle.std.specs.Prelude.{◌≡◌, [], ◌∷◌, ◌&&◌, eqb};
+ghost use Rattle.std.specs.Prelude.{◌≡◌, ◌&&◌, eqb};
 ghost use Rattle.stretches.specs.Stretches.{stretch_of};
 ghost use Rattle.fill.specs.Runs.{over_run, behind_run};
 ghost use Rattle.fill.specs.Filling.{is_any, fixed_in, with_ending};
-ghost use Rattle.fill.specs.Steps.{is_held, is_edge, line_parts};
-
-// A number is one of two.
-pub(crate) fn either(n: u8, a: u8, b: u8) -> bool
-    ensures { result ≡ is_any (a ∷ b ∷ []) n }
-{
-    (n == a) | (n == b)
-}
-
-// A row has a slot: it is a field, or the first field of one of many blocks.
-pub(crate) fn is_held(kind: u8) -> bool
-    ensures { result ≡ is_held kind }
-{
-    (kind == 1) | either(kind, 2, 8)
-}
-
-// A row is the first or last line of a block.
-pub(crate) fn is_edge(kind: u8) -> bool
-    ensures { result ≡ is_edge kind }
-{
-    (kind == 3) | ((kind == 4) | either(kind, 5, 9))
-}
+ghost use Rattle.fill.specs.Steps.{line_parts};
 
 // The value of a slot.
 pub(crate) fn value_of<'a, 'b>(

@@ -1,14 +1,12 @@
 // Which rows of a table stand: what is mandatory, what has a value, and an optional block where one of its slots has.
-//
-// The kinds are those of layout's specs/Rows: 1 and 2 a field, mandatory or not; 3 and 4 a block's opening, 5 its close; 6 and
-// 7 the opening of many blocks, 8 the first field of one of them, 9 its close; 10 and 11 what stops a line, which puts none; any other
-// number ends the many blocks.
 ghost use Rattle.std.specs.Prelude.{◌≡◌, true, ◌||◌, cond, [], ◌++◌, ◌+◌, ◌^◌, ◌<◌, eqb, drop};
 ghost use Rattle.layout.specs.Rows.{row_of, rows_of};
 ghost use Rattle.sheets.specs.Filled.{some};
 ghost use Rattle.fill.specs.Filling.{lent, behind_at, lower, deeper, has_value, any_rows};
+ghost use Rattle.fill.specs.Steps.{number};
 
 use super::parts;
+use layout::Kind;
 
 fn lower(deep: usize) -> usize
     ensures { result ≡ lower deep }
@@ -17,16 +15,13 @@ fn lower(deep: usize) -> usize
 }
 
 // The blocks that are open behind a row, by its kind.
-pub(crate) fn deeper(kind: u8, deep: usize) -> usize
+pub(crate) fn deeper(kind: Kind, deep: usize) -> usize
     requires { deep + 1 < 2 ^ 64 }
-    ensures { result ≡ deeper (row_of kind 0 []) deep }
+    ensures { result ≡ deeper (row_of (number kind) 0 []) deep }
 {
     match kind {
-        3 => deep + 1,
-        4 => deep + 1,
-        5 => lower(deep),
-        8 => deep + 1,
-        9 => lower(deep),
+        Kind::Opens | Kind::MayOpen | Kind::Mark => deep + 1,
+        Kind::Closes | Kind::ManyClose => lower(deep),
         _ => deep,
     }
 }
@@ -51,7 +46,7 @@ fn is_there<'a>(
 
 // So it is for the slot of a row.
 fn has_value<'a>(
-    kind: u8,
+    kind: Kind,
     slot: u8,
     slots: &[u8],
     optional: &[u8],
@@ -59,15 +54,14 @@ fn has_value<'a>(
     starts: &'a [usize],
     ends: &'a [usize],
 ) -> bool
-    ensures { result ≡ has_value (behind_at (lent slots.now optional.now text.now starts.now ends.now)) (row_of kind slot []) }
+    ensures { result ≡ has_value (behind_at (lent slots.now optional.now text.now starts.now ends.now)) (row_of (number kind) slot []) }
 {
-    if parts::either(kind, 1, 2) {
-        return is_there(slot, slots, optional, text, starts, ends);
+    match kind {
+        Kind::Field | Kind::MayField | Kind::Mark => {
+            is_there(slot, slots, optional, text, starts, ends)
+        }
+        _ => false,
     }
-    if kind == 8 {
-        return is_there(slot, slots, optional, text, starts, ends);
-    }
-    false
 }
 
 // So it is for one of the rows from a row on, up to the end of the block.
@@ -82,40 +76,34 @@ fn any_value<'a>(
 ) -> bool
     ensures { result ≡ any_rows (behind_at (lent slots.now optional.now text.now starts.now ends.now)) 1 (drop row (rows_of rows.now)) }
 {
-    let count = rows.len() / 16;
-    let mut i = row;
     let mut deep = 1;
-    while i < count {
+    for i in row..rows.len() / 16 {
         if deep == 0 {
             return false;
         }
-        let kind = rows[i * 16];
+        let kind = Kind::of(rows[i * 16]);
         let slot = rows[i * 16 + 1];
         if has_value(kind, slot, slots, optional, text, starts, ends) {
             return true;
         }
         deep = deeper(kind, deep);
-        i += 1;
     }
     false
 }
 
 // The line of a row with a slot stands, with what stands behind its text.
-pub(crate) fn has_line(kind: u8, front: &[u8], value: &[u8]) -> bool
-    ensures { result ≡ (eqb kind 1 || some (front.now ++ value.now)) }
+pub(crate) fn has_line(kind: Kind, front: &[u8], value: &[u8]) -> bool
+    ensures { result ≡ (eqb (number kind) 1 || some (front.now ++ value.now)) }
 {
-    if kind == 1 {
-        return true;
+    match kind {
+        Kind::Field => true,
+        _ => value.len() != 0 || front.len() != 0,
     }
-    if value.len() != 0 {
-        return true;
-    }
-    front.len() != 0
 }
 
 // A block's first or last line stands, where all blocks around it do.
 pub(crate) fn is_open<'a>(
-    kind: u8,
+    kind: Kind,
     rows: &[u8],
     row: usize,
     slots: &[u8],
@@ -125,10 +113,10 @@ pub(crate) fn is_open<'a>(
     ends: &'a [usize],
 ) -> bool
     requires { row + 1 < 2 ^ 64 }
-    ensures { result ≡ cond (eqb kind 4) (any_rows (behind_at (lent slots.now optional.now text.now starts.now ends.now)) 1 (drop (row + 1) (rows_of rows.now))) true }
+    ensures { result ≡ cond (eqb (number kind) 4) (any_rows (behind_at (lent slots.now optional.now text.now starts.now ends.now)) 1 (drop (row + 1) (rows_of rows.now))) true }
 {
-    if kind == 4 {
-        return any_value(rows, row + 1, slots, optional, text, starts, ends);
+    match kind {
+        Kind::MayOpen => any_value(rows, row + 1, slots, optional, text, starts, ends),
+        _ => true,
     }
-    true
 }

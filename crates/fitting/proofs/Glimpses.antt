@@ -1,27 +1,28 @@
 -- What a glimpse of a row says of layout's look at it with the first line of the text, row by row and then over the rows of a table: a
 -- line that fits is decided so there, and one that goes further goes further there, with nothing mandatory passed over.
 -- Assumes nothing.
-use Prim.Native.Nat.{ℕ, zero, suc, ◌+◌, ◌-◌, ◌*◌, ◌/◌, ◌≤◌, ◌<◌}
+use Prim.Native.Nat.{ℕ, zero, suc, ◌+◌, ◌*◌, ◌/◌, ◌≤◌, ◌<◌}
 use mathlib.Core.Path.{◌≡◌, refl, ◌∙◌}
 use mathlib.Core.Bool.{Bool, true, false, ◌&&◌, ◌||◌, cond, and_assoc}
 use mathlib.Core.List.{List, [], ◌∷◌}
 use native.Mathlib.Omega.{arith}
 use lib.Dec.{eqb}
 use lib.ListN.{length, take, drop, get_or}
-use borrow.Author.Tests.{eqb-true, eqb-false}
 use Rattle.text.specs.Bytes.{begins, before}
 use Rattle.text.specs.Classes.{printed}
 use Rattle.text.proofs.Bools.{of-both}
 use Rattle.text.proofs.Laws.{and_left, and_right, begins-length}
 use Rattle.lines.specs.Lines.{without_ending}
 use Rattle.bars.specs.Bars.{Bar, surplus, only, stops}
-use Rattle.layout.specs.Rows.{Row, field, opens, closes, many, mark, back, ends, bar, next_key, row_of, text_at, first_row, rows_of}
+use Rattle.layout.specs.Rows.{Row, field, opens, closes, many, mark, back, ends, bar, next_key, kind_of, text_at, first_row, rows_of}
 use Rattle.layout.specs.Layout.{fits_or9, lacks, is_seen, against, beneath, look, scan, step_of}
 use Rattle.layout.specs.declared.Place.{Place}
 use Rattle.layout.specs.declared.Step.{Step}
 use Rattle.layout.specs.declared.Look.{Look}
-use Rattle.layout.proofs.Laws.{row_next, row_at, text_at_lem}
-use Rattle.layout.proofs.Rows.{row-of, NoneTo, ends_at, scan-stop, scan-more}
+use Rattle.layout.proofs.Laws.{row_next, text_at_lem}
+use Rattle.layout.specs.declared.Kind.{Kind}
+use Rattle.layout.proofs.ByKind.{row_as, of_kind}
+use Rattle.layout.proofs.Rows.{scan-stop, scan-more}
 use Rattle.fitting.specs.Fitting.{bar_text, row_text, clean_rows, ends_line, Fits, Fitted, is_edge, may_stop, glimpse, glimpse_beneath, glimpse_at}
 use Rattle.fitting.specs.declared.Fit.{Fit}
 use Rattle.fitting.specs.declared.Glimpse.{Glimpse}
@@ -29,20 +30,9 @@ use Rattle.fitting.proofs.Fronts.{begins-line, edge-line, strays-line, same-begi
 
 -- ---- a row of a kind, with its text
 
-pub row-kind : (t : List ℕ) (row kind : ℕ) (key : List ℕ) → row < length t / 16 → get_or t (row * 16) 0 ≡ kind → key ≡ text_at t row
-    → first_row (drop (row * 16) t) ≡ row_of kind (get_or t (row * 16 + 1) 0) key
-row-kind t row kind key h e k = row-of t (row * 16) kind key e (k ∙ text_at_lem t row h)
-
--- inside a block that is being passed over, a row of none of the other kinds is the last of a block or an end
-pub out-beneath : (s : List ℕ) (deep : ℕ) (unmarked : Bool) (t : List ℕ) (at : ℕ)
-    → (((((NoneTo 4 (get_or t at 0) × (get_or t at 0 ≡ 6 → ⊥)) × (get_or t at 0 ≡ 7 → ⊥)) × (get_or t at 0 ≡ 8 → ⊥)) × (get_or t at 0 ≡ 9 → ⊥)) × (get_or t at 0 ≡ 10 → ⊥)) × (get_or t at 0 ≡ 11 → ⊥)
-    → glimpse_beneath s deep unmarked (first_row (drop at t)) ≡ Glimpse.Further (deep - 1) unmarked
-unfolding glimpse_beneath row_of NoneTo
-out-beneath s deep unmarked t at ((((((n, six), seven), eight), nine), ten), eleven) = on (eqb (get_or t at 0) 5) refl
-  where
-    on : (b : Bool) → eqb (get_or t at 0) 5 ≡ b → glimpse_beneath s deep unmarked (first_row (drop at t)) ≡ Glimpse.Further (deep - 1) unmarked
-    on true e = rw (row_at t at, eqb-true (get_or t at 0) 5 e)
-    on false e = rw (ends_at t at (((((((n, eqb-false _ _ e), six), seven), eight), nine), ten), eleven))
+pub row-kind : (t : List ℕ) (row : ℕ) (kind : Kind) → kind ≡ kind_of (get_or t (row * 16) 0) → (k : Kind) → kind ≡ k
+    → (key : List ℕ) → row < length t / 16 → key ≡ text_at t row → first_row (drop (row * 16) t) ≡ row_as k (get_or t (row * 16 + 1) 0) key
+row-kind t row kind e k f key h g = of_kind t (row * 16) kind e k f key (g ∙ text_at_lem t row h)
 
 -- ---- a glimpse beside a look
 

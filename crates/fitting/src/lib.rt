@@ -9,7 +9,7 @@ ghost use Rattle.layout.specs.Rows.{rows_of, first_row, field, mark};
 ghost use Rattle.layout.specs.Layout.{takes};
 ghost use Rattle.fitting.specs.Fitting.{Fitted, is_edge, glimpse, glimpse_beneath, glimpse_at};
 
-use layout::{Place, Step};
+use layout::{Kind, Place, Step};
 
 // The line is the first or the last of a block, or a field's: what it does, and how many bytes the text of its row has. Or nothing is told.
 #[derive(Clone, Copy)]
@@ -137,34 +137,32 @@ fn see_row(
     requires { row < length table.now / 16 }
     ensures { result ≡ glimpse here seen.now text.now row (drop (row + 1) (rows_of table.now)) unmarked (first_row (drop (row * 16) table.now)) }
 {
-    let kind = table[row * 16];
     let slot = table[row * 16 + 1] as usize;
     let key = layout::row_text(table, row);
     let next = row + 1;
     let back = here.back;
-    match kind {
-        1 => see_field(row, slot, key, true, text, here, unmarked),
-        2 => see_field(row, slot, key, false, text, here, unmarked),
-        3 => see_edge(next, back, key, true, text, unmarked),
-        4 => see_edge(next, back, key, false, text, unmarked),
-        5 => see_edge(next, back, key, true, text, unmarked),
-        6 => see_edge(next, row, key, false, text, unmarked),
-        7 => {
+    match Kind::of(table[row * 16]) {
+        Kind::Field => see_field(row, slot, key, true, text, here, unmarked),
+        Kind::MayField => see_field(row, slot, key, false, text, here, unmarked),
+        Kind::Opens | Kind::Closes => see_edge(next, back, key, true, text, unmarked),
+        Kind::MayOpen => see_edge(next, back, key, false, text, unmarked),
+        Kind::Many => see_edge(next, row, key, false, text, unmarked),
+        Kind::OneMore => {
             if layout::lacks_one(table, next, seen) {
                 see_edge(next, row, key, true, text, unmarked)
             } else {
                 Glimpse::Further(1, unmarked)
             }
         }
-        8 => see_mark(row, slot, key, seen, text, here),
-        9 => see_edge(back, back, key, true, text, unmarked),
-        10 => unless(text::begins_with(text, key), 0, unmarked),
-        11 => unless(
+        Kind::Mark => see_mark(row, slot, key, seen, text, here),
+        Kind::ManyClose => see_edge(back, back, key, true, text, unmarked),
+        Kind::Surplus => unless(text::begins_with(text, key), 0, unmarked),
+        Kind::Only => unless(
             bars::strays(layout::next_key(table, next), key, text),
             0,
             unmarked,
         ),
-        _ => Glimpse::Not,
+        Kind::End => Glimpse::Not,
     }
 }
 
@@ -186,20 +184,15 @@ fn see_beneath(table: &[u8], row: usize, text: &[u8], deep: usize, unmarked: boo
     requires { (row < length table.now / 16) × (0 < deep) × (deep ≤ row) }
     ensures { result ≡ glimpse_beneath text.now deep unmarked (first_row (drop (row * 16) table.now)) }
 {
-    let kind = table[row * 16];
     let key = layout::row_text(table, row);
-    match kind {
-        1 => pass_over(text, key, deep, deep, unmarked),
-        2 => pass_over(text, key, deep, deep, unmarked),
-        3 => Glimpse::Further(deep + 1, unmarked),
-        4 => Glimpse::Further(deep + 1, unmarked),
-        6 => Glimpse::Further(deep + 1, unmarked),
-        7 => Glimpse::Further(deep + 1, unmarked),
-        8 => Glimpse::Further(deep + 1, unmarked),
-        9 => pass_over(text, key, deep, deep - 1, unmarked),
-        10 => Glimpse::Further(deep, unmarked),
-        11 => Glimpse::Further(deep, unmarked),
-        _ => Glimpse::Further(deep - 1, unmarked),
+    match Kind::of(table[row * 16]) {
+        Kind::Field | Kind::MayField => pass_over(text, key, deep, deep, unmarked),
+        Kind::Opens | Kind::MayOpen | Kind::Many | Kind::OneMore | Kind::Mark => {
+            Glimpse::Further(deep + 1, unmarked)
+        }
+        Kind::ManyClose => pass_over(text, key, deep, deep - 1, unmarked),
+        Kind::Surplus | Kind::Only => Glimpse::Further(deep, unmarked),
+        Kind::Closes | Kind::End => Glimpse::Further(deep - 1, unmarked),
     }
 }
 
@@ -227,11 +220,9 @@ fn see(
 pub fn row_for(table: &[u8], here: Place, seen: &[u8], text: &[u8]) -> Fit
     ensures { Fitted (rows_of table.now) here seen.now text.now result }
 {
-    let rows = table.len() / 16;
-    let mut row = here.row;
     let mut deep = 0;
     let mut unmarked = false;
-    while row < rows {
+    for row in here.row..table.len() / 16 {
         match see(table, row, seen, text, here, deep, unmarked) {
             Glimpse::Edge(step, width) => return Fit::Edge(step, width),
             Glimpse::Field(step, width) => return Fit::Field(step, width),
@@ -241,7 +232,6 @@ pub fn row_for(table: &[u8], here: Place, seen: &[u8], text: &[u8]) -> Fit
             }
             Glimpse::Not => return Fit::Not,
         }
-        row += 1;
     }
     Fit::Not
 }

@@ -1,16 +1,14 @@
 -- One line: what the row that it fits and the form of its slot tell of it, together.
 -- Assumes nothing.
 use Prim.Native.Nat.{ℕ, ◌+◌, ◌-◌, ◌≤◌}
-use mathlib.Core.Path.{◌≡◌, refl, sym, ap, ◌∙◌}
+use mathlib.Core.Path.{◌≡◌, sym, ap, ◌∙◌}
 use mathlib.Core.Bool.{true}
 use mathlib.Core.List.{List, ◌++◌}
 use native.Mathlib.Omega.{arith}
-use lib.ListN.{length, take, drop, length-drop, take-append-drop}
+use lib.ListN.{length, take, drop, take-append-drop}
 use lib.Seq.{take-take}
-use Rattle.text.specs.Bytes.{before}
 use Rattle.text.specs.Classes.{printed}
 use Rattle.text.proofs.Printed.{printed-append}
-use Rattle.lines.specs.Lines.{without_ending}
 use Rattle.lines.proofs.Laws.{drop-front}
 use Rattle.forms.specs.Forms.{Slot, value_number}
 use Rattle.layout.specs.Rows.{Row}

@@ -1,33 +1,29 @@
 -- The lines one after the other, whatever follows them: those of the header, and those behind it. What the passes know of a message at
 -- a line (reader's and walk's `Kept`) is known of the bytes up to there in front of any others.
 -- Assumes nothing.
-use Prim.Native.Nat.{ℕ, suc, ◌+◌, ◌-◌, ◌≤◌, ◌<◌}
+use Prim.Native.Nat.{ℕ, ◌+◌, ◌-◌, ◌≤◌, ◌<◌}
 use mathlib.Core.Path.{◌≡◌, refl, sym, ap, ◌∙◌}
 use mathlib.Core.Bool.{Bool, true, false, cond}
 use mathlib.Core.List.{List, [], ◌∷◌, ◌++◌, append_assoc, append-nil}
-use mathlib.Core.Logic.{◌⊎◌, inl, inr}
+use mathlib.Core.Logic.{inl, inr}
 use native.Mathlib.Omega.{arith}
 use lib.Dec.{eqb}
 use lib.ListN.{length, take, drop, get_or, set, replicate, length-append, length-take, take-append-drop}
 use lib.Seq.{length-take-le, take-add, take-take, take-append-le, drop_at, drop-drop}
-use borrow.Author.Tests.{eq-eqb, ne_eqb, eqb-true, eqb-false}
-use Rattle.text.specs.Bytes.{bytes, before}
+use borrow.Author.Tests.{eqb-false}
+use Rattle.text.specs.Bytes.{bytes}
 use Rattle.text.specs.Classes.{printed}
 use Rattle.stretches.specs.Stretches.{slot_count}
 use Rattle.lines.specs.Verdicts.{pass, refused, then}
 use Rattle.lines.specs.Lines.{lines_of, ended, line_at, start_behind}
-use Rattle.lines.specs.declared.Line.{Line}
-use Rattle.lines.specs.declared.Verdict.{Verdict}
 use Rattle.lines.proofs.Laws.{pass-then, drop-take, begins, located, lines-behind}
 use Rattle.lines.proofs.Joins.{ended-behind}
 use Rattle.forms.specs.Forms.{Slot, value_number}
 use Rattle.layout.specs.Rows.{Row}
 use Rattle.layout.specs.Layout.{step_of}
 use Rattle.layout.specs.declared.Place.{Place}
-use Rattle.layout.specs.declared.Step.{Step}
 use Rattle.walk.specs.Walk.{value_verdict, walk_of}
 use Rattle.walk.proofs.Lines as Walk
-use Rattle.reader.specs.Header.{head_pass, starts_from, ends_from}
 use Rattle.reader.proofs.Passes as Reader
 use Rattle.glance.specs.Steps.{Ended, Tells, HeadTold, BodyTold}
 use Rattle.glance.specs.declared.Taken.{Taken}

@@ -116,9 +116,7 @@ fn take_header(
     ensures { HeadSays (slot_at slots.now) header.now text.now starts.old ends.old starts.new ends.new result }
 {
     let mut at = 0;
-    let mut i = 0;
-    while i < header.len() {
-        let slot = header[i];
+    for &slot in header {
         if slot == 0 {
             return Width::Not;
         }
@@ -130,7 +128,6 @@ fn take_header(
         };
         walk::keep(slots, starts, ends, slot as usize, at, at + n);
         at = next;
-        i += 1;
     }
     Width::Is(at)
 }
@@ -167,6 +164,7 @@ fn take_body(
     let mut last = from;
     let mut stop = from;
     let mut at = from;
+    // The step of each line says the row that the next is looked for from: no `for` is plainer.
     while here.row < count {
         let taken = see(&text[at..], rows, slots, here, &seen);
         if !taken.told {

@@ -1,7 +1,7 @@
 -- The mathematics of the crate's functions, over plain lists and numbers: the row of a kind in a table's bytes, and what each row
 -- that is passed says of the marks ahead and of the line.
 -- Assumes nothing.
-use Prim.Native.Nat.{ℕ, zero, suc, ◌+◌, ◌*◌, ◌-◌, ◌/◌, ◌%◌, ◌≤◌, ◌<◌}
+use Prim.Native.Nat.{ℕ, ◌+◌, ◌*◌, ◌-◌, ◌/◌, ◌%◌, ◌≤◌, ◌<◌}
 use mathlib.Core.Path.{◌≡◌, refl, sym, ◌∙◌}
 use mathlib.Core.Bool.{Bool, true, false, ◌||◌, not}
 use mathlib.Core.List.{List, [], ◌∷◌}
@@ -9,14 +9,15 @@ use mathlib.Core.Logic.{◌⊎◌, inl, inr}
 use native.Mathlib.Omega.{arith}
 use lib.ListN.{length, take, drop, get_or, get_or-eq_default}
 use lib.Seq.{drop-drop, get_or-drop}
-use Rattle.layout.specs.Rows.{Row, ends, next_key, row_of, key_of, first_row, rows_of}
+use Rattle.layout.specs.Rows.{Row, next_key, kind_of, key_of, first_row, rows_of}
 use Rattle.layout.specs.Layout.{is_seen, lacks, look, onward, scan, step_of, wrong}
 use Rattle.layout.specs.declared.Place.{Place}
 use Rattle.layout.specs.declared.Step.{Step}
 use Rattle.layout.specs.declared.Look.{Look}
 use Rattle.layout.specs.declared.Look.TheVariants.{Decided, Further}
-use Rattle.layout.proofs.ByKind.{by_kind}
-use Rattle.layout.proofs.Laws.{row_next, row-none, row_at, look-deeper}
+use Rattle.layout.specs.declared.Kind.{Kind}
+use Rattle.layout.proofs.ByKind.{row_as, of_kind}
+use Rattle.layout.proofs.Laws.{row_next, row-none, look-deeper}
 
 -- ---- the bytes of a row
 
@@ -27,60 +28,44 @@ key-at t at =
     let e : at + 3 + n - (at + 3) ≡ n = omega arith in
     rw (e, get_or-drop at t 2 0, drop-drop 3 at t)
 
--- the row of a kind, from its bytes
-pub row-of : (t : List ℕ) (at kind : ℕ) (key : List ℕ) → get_or t at 0 ≡ kind → key ≡ key_of (drop at t) → first_row (drop at t) ≡ row_of kind (get_or t (at + 1) 0) key
-row-of t at kind key e k = row_at t at ∙ rw (e, k)
-
 pub unseen : (seen : List ℕ) (slot : ℕ) → length seen ≤ slot → false ≡ is_seen seen slot
 unfolding is_seen
 unseen seen slot h = rw (get_or-eq_default seen 0 h)
 
 -- ---- the kinds of rows
 
--- a number that is none of the kinds is the end of many blocks
-ends-out : (slot : ℕ) (key : List ℕ) (k : ℕ) → (k ≡ 0) ⊎ (11 < k) → row_of k slot key ≡ ends
-unfolding row_of
-ends-out slot key k (inl e) = rw e
-ends-out slot key k (inr h) = rw (get_or-eq_default _ ends h)
-
--- a number is none of 1 up to another
-unfoldable pub NoneTo : ℕ → ℕ → Type 0
-NoneTo zero k = Unit
-NoneTo (suc n) k = NoneTo n k × (k ≡ suc n → ⊥)
-
-none-past : (n k : ℕ) → NoneTo n k → (k ≡ 0) ⊎ (n < k)
-unfolding NoneTo
-none-past zero zero h = inl refl
-none-past zero (suc k) h = inr (omega arith)
-none-past (suc n) k h = go (none-past n k h.0)
-  where
-    go : (k ≡ 0) ⊎ (n < k) → (k ≡ 0) ⊎ (suc n < k)
-    go (inl e) = inl e
-    go (inr l) = let o = h.1 in inr (omega arith)
-
-pub ends_at : (t : List ℕ) (at : ℕ) → NoneTo 11 (get_or t at 0) → first_row (drop at t) ≡ ends
-ends_at t at n = row_at t at ∙ ends-out _ _ _ (none-past 11 _ n)
-
 -- a row that is no mark and no end says nothing of the marks
-lacks-plain : (seen : List ℕ) (rows : List Row) (slot : ℕ) (key : List ℕ) (k : ℕ) → 1 ≤ k → k ≤ 11 → (k ≡ 8 → ⊥)
-    → lacks seen (row_of k slot key ∷ rows) ≡ lacks seen rows
-unfolding lacks
-lacks-plain seen rows slot key =
-    by_kind (λ k r. 1 ≤ k → k ≤ 11 → (k ≡ 8 → ⊥) → lacks seen (r ∷ rows) ≡ lacks seen rows) slot key
-    (λ l h n. let z : ⊥ = omega arith in absurd z) plain plain plain plain plain plain plain
-    (λ l h n. absurd (n refl)) plain plain plain
-    (λ k o l h n. let z : ⊥ = omega arith in absurd z)
-  where
-    plain : {k : ℕ} → 1 ≤ k → k ≤ 11 → (k ≡ 8 → ⊥) → lacks seen rows ≡ lacks seen rows
-    plain l h n = refl
+lacks-plain : (seen : List ℕ) (rows : List Row) (slot : ℕ) (key : List ℕ) (k : Kind) → (k ≡ Kind.Mark → ⊥) → (k ≡ Kind.End → ⊥)
+    → lacks seen (row_as k slot key ∷ rows) ≡ lacks seen rows
+unfolding lacks row_as
+lacks-plain seen rows slot key Kind.End m e = absurd (e refl)
+lacks-plain seen rows slot key Kind.Field m e = refl
+lacks-plain seen rows slot key Kind.MayField m e = refl
+lacks-plain seen rows slot key Kind.Opens m e = refl
+lacks-plain seen rows slot key Kind.MayOpen m e = refl
+lacks-plain seen rows slot key Kind.Closes m e = refl
+lacks-plain seen rows slot key Kind.Many m e = refl
+lacks-plain seen rows slot key Kind.OneMore m e = refl
+lacks-plain seen rows slot key Kind.Mark m e = absurd (m refl)
+lacks-plain seen rows slot key Kind.ManyClose m e = refl
+lacks-plain seen rows slot key Kind.Surplus m e = refl
+lacks-plain seen rows slot key Kind.Only m e = refl
 
 -- one that is no field's has no text for a bar
-no_key : (slot : ℕ) (key : List ℕ) (rows : List Row) (k : ℕ) → (k ≡ 1 → ⊥) → (k ≡ 2 → ⊥) → next_key (row_of k slot key ∷ rows) ≡ []
-unfolding next_key
-no_key slot key rows =
-    by_kind (λ k r. (k ≡ 1 → ⊥) → (k ≡ 2 → ⊥) → next_key (r ∷ rows) ≡ []) slot key
-    (λ a b. refl) (λ a b. absurd (a refl)) (λ a b. absurd (b refl)) (λ a b. refl) (λ a b. refl) (λ a b. refl) (λ a b. refl) (λ a b. refl)
-    (λ a b. refl) (λ a b. refl) (λ a b. refl) (λ a b. refl) (λ k o a b. refl)
+no_key : (slot : ℕ) (key : List ℕ) (rows : List Row) (k : Kind) → (k ≡ Kind.Field → ⊥) → (k ≡ Kind.MayField → ⊥) → next_key (row_as k slot key ∷ rows) ≡ []
+unfolding next_key row_as
+no_key slot key rows Kind.End f m = refl
+no_key slot key rows Kind.Field f m = absurd (f refl)
+no_key slot key rows Kind.MayField f m = absurd (m refl)
+no_key slot key rows Kind.Opens f m = refl
+no_key slot key rows Kind.MayOpen f m = refl
+no_key slot key rows Kind.Closes f m = refl
+no_key slot key rows Kind.Many f m = refl
+no_key slot key rows Kind.OneMore f m = refl
+no_key slot key rows Kind.Mark f m = refl
+no_key slot key rows Kind.ManyClose f m = refl
+no_key slot key rows Kind.Surplus f m = refl
+no_key slot key rows Kind.Only f m = refl
 
 -- ---- the text of a field's row
 
@@ -90,17 +75,18 @@ module _ (t : List ℕ) (row : ℕ) where
   no-next h = rw (row-none t row h)
 
   module _ (h : row < length t / 16) where
-    next_here : next_key (drop row (rows_of t)) ≡ next_key (row_of (get_or t (row * 16) 0) (get_or t (row * 16 + 1) 0) (key_of (drop (row * 16) t)) ∷ drop (row + 1) (rows_of t))
-    next_here = rw (row_next t row h, row_at t (row * 16))
+    module _ (kind : Kind) (e : kind ≡ kind_of (get_or t (row * 16) 0)) where
+      next_here : (k : Kind) → kind ≡ k → (key : List ℕ) → key ≡ key_of (drop (row * 16) t)
+          → next_key (drop row (rows_of t)) ≡ next_key (row_as k (get_or t (row * 16 + 1) 0) key ∷ drop (row + 1) (rows_of t))
+      next_here k f key g = rw (row_next t row h, of_kind t (row * 16) kind e k f key g)
 
-    pub next_field : (must : ℕ) → (must ≡ 1) ⊎ (must ≡ 2) → get_or t (row * 16) 0 ≡ must → (key : List ℕ) → key ≡ key_of (drop (row * 16) t) → key ≡ next_key (drop row (rows_of t))
-    unfolding next_key row_of
-    next_field must (inl f) e key k = k ∙ sym (next_here ∙ rw (e, f))
-    next_field must (inr f) e key k = k ∙ sym (next_here ∙ rw (e, f))
+      pub next_field : (kind ≡ Kind.Field) ⊎ (kind ≡ Kind.MayField) → (key : List ℕ) → key ≡ key_of (drop (row * 16) t) → key ≡ next_key (drop row (rows_of t))
+      unfolding next_key row_as
+      next_field (inl f) key g = sym (next_here Kind.Field f key g)
+      next_field (inr f) key g = sym (next_here Kind.MayField f key g)
 
-    pub next-other : NoneTo 2 (get_or t (row * 16) 0) → [] ≡ next_key (drop row (rows_of t))
-    unfolding NoneTo
-    next-other n = sym (next_here ∙ no_key _ _ _ (get_or t (row * 16) 0) n.0.1 n.1)
+      pub next-other : (kind ≡ Kind.Field → ⊥) → (kind ≡ Kind.MayField → ⊥) → [] ≡ next_key (drop row (rows_of t))
+      next-other f m = sym (next_here kind refl _ refl ∙ no_key _ _ _ kind f m)
 
 -- ---- the marks ahead, from a row on
 
@@ -110,26 +96,28 @@ module _ (seen t : List ℕ) (row i : ℕ) (inv : lacks seen (drop i (rows_of t)
   lacks-none h = sym (sym inv ∙ rw (row-none t i h))
 
   module _ (h : i < length t / 16) where
-    lacks-here : lacks seen (drop row (rows_of t)) ≡ lacks seen (row_of (get_or t (i * 16) 0) (get_or t (i * 16 + 1) 0) (key_of (drop (i * 16) t)) ∷ drop (i + 1) (rows_of t))
-    lacks-here = sym inv ∙ rw (row_next t i h, row_at t (i * 16))
+    module _ (kind : Kind) (e : kind ≡ kind_of (get_or t (i * 16) 0)) where
+      lacks-here : (k : Kind) → kind ≡ k
+          → lacks seen (drop row (rows_of t)) ≡ lacks seen (row_as k (get_or t (i * 16 + 1) 0) (key_of (drop (i * 16) t)) ∷ drop (i + 1) (rows_of t))
+      lacks-here k f = sym inv ∙ rw (row_next t i h, of_kind t (i * 16) kind e k f _ refl)
 
-    module _ (e : get_or t (i * 16) 0 ≡ 8) (b : Bool) (f : b ≡ is_seen seen (get_or t (i * 16 + 1) 0)) where
-      mark-here : lacks seen (drop row (rows_of t)) ≡ (not b || lacks seen (drop (i + 1) (rows_of t)))
-      unfolding lacks row_of
-      mark-here = lacks-here ∙ rw (e, ← f)
+      module _ (m : kind ≡ Kind.Mark) (b : Bool) (f : b ≡ is_seen seen (get_or t (i * 16 + 1) 0)) where
+        mark-here : lacks seen (drop row (rows_of t)) ≡ (not b || lacks seen (drop (i + 1) (rows_of t)))
+        unfolding lacks row_as
+        mark-here = lacks-here Kind.Mark m ∙ rw (← f)
 
-      pub mark-unseen : not b ≡ true → true ≡ lacks seen (drop row (rows_of t))
-      mark-unseen n = sym (mark-here ∙ rw n)
+        pub mark-unseen : not b ≡ true → true ≡ lacks seen (drop row (rows_of t))
+        mark-unseen n = sym (mark-here ∙ rw n)
 
-      pub mark-seen : not b ≡ false → lacks seen (drop (i + 1) (rows_of t)) ≡ lacks seen (drop row (rows_of t))
-      mark-seen n = sym (mark-here ∙ rw n)
+        pub mark-seen : not b ≡ false → lacks seen (drop (i + 1) (rows_of t)) ≡ lacks seen (drop row (rows_of t))
+        mark-seen n = sym (mark-here ∙ rw n)
 
-    pub lacks-end : (get_or t (i * 16) 0 ≡ 0) ⊎ (11 < get_or t (i * 16) 0) → false ≡ lacks seen (drop row (rows_of t))
-    unfolding lacks
-    lacks-end e = sym (lacks-here ∙ rw (ends-out _ _ _ e))
+      pub lacks-end : kind ≡ Kind.End → false ≡ lacks seen (drop row (rows_of t))
+      unfolding lacks row_as
+      lacks-end m = sym (lacks-here Kind.End m)
 
-    pub lacks-more : 1 ≤ get_or t (i * 16) 0 → get_or t (i * 16) 0 ≤ 11 → (get_or t (i * 16) 0 ≡ 8 → ⊥) → lacks seen (drop (i + 1) (rows_of t)) ≡ lacks seen (drop row (rows_of t))
-    lacks-more l g n = sym (lacks-here ∙ lacks-plain _ _ _ _ _ l g n)
+      pub lacks-more : (kind ≡ Kind.Mark → ⊥) → (kind ≡ Kind.End → ⊥) → lacks seen (drop (i + 1) (rows_of t)) ≡ lacks seen (drop row (rows_of t))
+      lacks-more m n = sym (lacks-here kind refl ∙ lacks-plain _ _ _ _ kind m n)
 
 -- ---- a line against the rows ahead
 

@@ -3,6 +3,7 @@
 use Rattle.std.specs.Prelude.{ℕ, ◌*◌, ◌/◌, ◌%◌, Bool, true, false, cond, List, [], ◌∷◌, map, ltb, length, take, drop, get_or}
 use Rattle.text.specs.Bytes.{parts}
 use Rattle.bars.specs.Bars.{Bar, surplus, only}
+use Rattle.layout.specs.declared.Kind.{Kind}
 
 -- a row of the table
 --   field   a line that is mandatory or not, its slot, and the text that it begins with: tag and qualifier
@@ -43,6 +44,13 @@ unfoldable pub row_of : ℕ → ℕ → List ℕ → Row
 row_of kind slot key =
     get_or (ends ∷ field true slot key ∷ field false slot key ∷ opens true key ∷ opens false key ∷ closes key
     ∷ many false true key ∷ many true false key ∷ mark slot key ∷ back key ∷ bar (surplus slot key) ∷ bar (only key) ∷ []) kind ends
+
+-- the kind of a row by its number, as the code names it
+unfoldable pub kind_of : ℕ → Kind
+kind_of kind =
+    get_or (Kind.End ∷ Kind.Field ∷ Kind.MayField ∷ Kind.Opens ∷ Kind.MayOpen ∷ Kind.Closes
+    ∷ Kind.Many ∷ Kind.OneMore ∷ Kind.Mark ∷ Kind.ManyClose ∷ Kind.Surplus ∷ Kind.Only ∷ [])
+    kind Kind.End
 
 -- a length past the thirteen bytes of a row's text counts by its rest
 unfoldable pub key_of : List ℕ → List ℕ

@@ -1,15 +1,17 @@
 -- The mathematics of the crate's functions: a date and time, and what each turn of a loop leaves.
 -- Assumes nothing.
-use Prim.Native.Nat.{ℕ, suc, ◌+◌, ◌-◌, ◌*◌, ◌/◌, ◌%◌, ◌≤◌, ◌<◌}
+use Prim.Native.Nat.{ℕ, suc, ◌+◌, ◌*◌, ◌≤◌, ◌<◌}
 use mathlib.Core.Path.{◌≡◌, sym, ap, ◌∙◌}
 use mathlib.Core.Bool.{true}
-use mathlib.Core.List.{List, [], ◌∷◌, ◌++◌, map, append_assoc, append-nil, flatten}
+use mathlib.Core.List.{List, ◌∷◌, ◌++◌, map, append_assoc, append-nil, flatten}
 use native.Mathlib.Nat.{zero-mul, suc-mul, mul-le-mul_right}
 use native.Mathlib.Numerals.{add-one}
 use native.Mathlib.Omega.{arith}
 use lib.Dec.{leb}
-use lib.ListN.{length, take, drop, get_or, set, replicate, length-append, length-take, length-map, get_or-map}
-use lib.Seq.{take-suc, take-suc-set, take_at, take_all}
+use Rattle.std.specs.Int.{to_le_bytes, w64}
+use Rattle.std.proofs.Math.Nat.{div-div-eq-div-mul}
+use lib.ListN.{length, take, drop, get_or, replicate, length-append, length-take, length-map, get_or-map}
+use lib.Seq.{take-suc, take_at, take_all}
 use borrow.Author.Tests.{le-leb}
 use Rattle.text.specs.Copy.{over, fits, placed}
 use Rattle.text.proofs.Laws.{placed-all, length-placed}
@@ -31,23 +33,9 @@ module _ (m : Moment) (time : ℕ) (e : time ≡ at_most 999999 m.time.0) where
 
 -- ---- the bytes of a number
 
-pub bytes-more : (place : List ℕ) (i rest number : ℕ) → i < 8 → length place ≡ 8 → take i place ++ number_bytes (8 - i) rest ≡ number_bytes 8 number
-    → take (i + 1) (set place i (rest % 256)) ++ number_bytes (8 - (i + 1)) (rest / 256) ≡ number_bytes 8 number
+pub low-first : (n : ℕ) → to_le_bytes w64 n ≡ number_bytes 8 n
 unfolding number_bytes
-bytes-more place i rest number h l e =
-    let k : 8 - i ≡ suc (8 - (i + 1)) = omega arith in
-    let t : take (suc i) (set place i (rest % 256)) ≡ take i place ++ (rest % 256 ∷ []) = take-suc-set place i (rest % 256) (omega arith) in
-    ap (λ (n : ℕ). take n (set place i (rest % 256)) ++ number_bytes (8 - (i + 1)) (rest / 256)) (add-one i)
-    ∙ ap (λ (l : List ℕ). l ++ number_bytes (8 - (i + 1)) (rest / 256)) t
-    ∙ append_assoc (take i place) (rest % 256 ∷ []) (number_bytes (8 - (i + 1)) (rest / 256))
-    ∙ ap (λ (n : ℕ). take i place ++ number_bytes n rest) (sym k) ∙ e
-
-pub bytes-done : (place : List ℕ) (i rest number : ℕ) → 8 ≤ i → length place ≡ 8 → take i place ++ number_bytes (8 - i) rest ≡ number_bytes 8 number → place ≡ number_bytes 8 number
-unfolding number_bytes
-bytes-done place i rest number h l e =
-    let z : 8 - i ≡ 0 = omega arith in
-    let t : take i place ≡ place = take_all i place (omega arith) in
-    rw (z, t, append-nil) at e
+low-first n = simp div-div-eq-div-mul
 
 -- ---- places in a row
 

@@ -27,14 +27,12 @@ pub fn keep(places: &mut [usize], k: usize, ends: &[usize])
     ensures { places.new ≡ sets places.old k ends.now }
 {
     let mut place = k;
-    let mut i = 0;
-    while i < ends.len() {
+    for &end in ends {
         if places.len() <= place {
             return;
         }
-        places[place] = ends[i];
+        places[place] = end;
         place += 1;
-        i += 1;
     }
 }
 

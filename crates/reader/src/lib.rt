@@ -58,13 +58,10 @@ fn read_header(message: &[u8], header: &[u8], slots: &[u8]) -> Body
     let mut ends = [0usize; stretches::SLOTS];
     let mut fault = Verdict::PASS;
     let mut at = 0;
-    let mut i = 0;
-    while i < header.len() {
-        let slot = header[i];
+    for (i, &slot) in header.iter().enumerate() {
         let line = lines::line_at(message, at);
         let stop = line.end;
-        i += 1;
-        fault = first_fault(slots, fault, slot, &message[at..stop], i);
+        fault = first_fault(slots, fault, slot, &message[at..stop], i + 1);
         keep(slots, &mut starts, &mut ends, slot, at, stop);
         at = line.next;
     }

@@ -69,7 +69,8 @@ fn turn_at(message: &[u8], rows: &[u8], here: Place, seen: &mut [u8], at: usize)
 
 // Searches the lines behind the four of the header for that of a slot, and answers its value without so many of its first bytes.
 // The outer loop goes from block to block, and the inner one over the lines up to a block's next edge; each is held against the
-// table, and a line that it refuses ends the search, as does the one that is taken for the slot.
+// table, and a line that it refuses ends the search, as does the one that is taken for the slot. Each line says where the next begins:
+// no `for` is plainer.
 pub fn find(message: &[u8], rows: &[u8], wanted: usize, front: usize) -> Span
     ensures { result ≡ span_of (rows_of rows.now) message.now wanted front }
 {

@@ -1,42 +1,33 @@
 -- The mathematics of the crate's functions: what each turn of a loop leaves.
 -- Assumes nothing.
-use Prim.Native.Nat.{ℕ, suc, ◌+◌, ◌-◌, ◌*◌, ◌^◌, ◌≤◌, ◌<◌}
+use Prim.Native.Nat.{ℕ, ◌+◌, ◌-◌, ◌*◌, ◌≤◌, ◌<◌}
 use mathlib.Core.Path.{◌≡◌, sym, ap, ◌∙◌}
-use mathlib.Core.List.{List, [], map}
-use native.Mathlib.Nat.{add-zero, pow-suc, pow-le-pow_right}
+use mathlib.Core.List.{List, [], ◌∷◌, map}
+use native.Mathlib.Nat.{add-zero}
 use native.Mathlib.Numerals.{add-one}
 use native.Mathlib.Omega.{arith}
-use lib.Arith.{digits_lt}
-use lib.Dec.{lit<}
-use lib.ListN.{length, take, drop, get_or, set, replicate, length-take, length-drop, length-map, length-set, drop_of_length-le, get_or-map}
-use lib.Seq.{take-suc, take-suc-set, take_all, drop-cons, drop-drop, get_or-drop}
+use Rattle.std.specs.Int.{from_le_bytes, w64}
+use lib.ListN.{length, take, drop, get_or, set, replicate, length-take, length-drop, length-map, length-set, get_or-map}
+use lib.Seq.{take-suc, take-suc-set, take_all, drop-drop, get_or-drop}
 use Rattle.text.specs.Bytes.{parts}
 use Rattle.text.specs.Copy.{placed}
 use Rattle.text.proofs.Laws.{rest_of, placed-all, parts_from, length-parts}
 use Rattle.unpacked.specs.Unpacked.{number_from}
 
--- ---- a number from its bytes, the last first
+-- ---- a number from its bytes, the least first
 
-pub from-none : (place : List ℕ) → length place ≡ 8 → 0 ≡ number_from (drop 8 place)
+pub low-first : (s : List ℕ) → length s ≡ 8 → from_le_bytes w64 s ≡ number_from s
 unfolding number_from
-from-none place l = rw (drop_of_length-le place {i = 8} (omega arith))
-
-pub from_more : (place : List ℕ) (left number b : ℕ) → left < 8 → length place ≡ 8 → number ≡ number_from (drop (suc left) place) → b ≡ get_or place left 0
-    → number * 256 + b ≡ number_from (drop left place)
-unfolding number_from
-from_more place left number b h l e f = rw (drop-cons place left 0 (omega arith), ← e, ← f) (omega arith)
-
-pub from-small : (left number b : ℕ) → left < 8 → number < 256 ^ (8 - suc left) → b < 256 → number * 256 + b < 256 ^ (8 - left)
-from-small left number b h e f =
-    let k : 8 - left ≡ suc (8 - suc left) = omega arith in
-    rw (k, pow-suc) (digits_lt e f)
-
--- so that it fits
-pub from-fits : (left number : ℕ) → number < 256 ^ (8 - left) → number < 18446744073709551616
-from-fits left number h =
-    let k : 8 - left ≤ 8 = omega arith in
-    let p : 256 ^ (8 - left) ≤ 18446744073709551616 = pow-le-pow_right (lit< tt) {i = 8 - left} {j = 8} k in
-    omega arith
+low-first [] l = let z : ⊥ = omega arith in absurd z
+low-first (a ∷ []) l = let z : ⊥ = omega arith in absurd z
+low-first (a ∷ b ∷ []) l = let z : ⊥ = omega arith in absurd z
+low-first (a ∷ b ∷ c ∷ []) l = let z : ⊥ = omega arith in absurd z
+low-first (a ∷ b ∷ c ∷ d ∷ []) l = let z : ⊥ = omega arith in absurd z
+low-first (a ∷ b ∷ c ∷ d ∷ e ∷ []) l = let z : ⊥ = omega arith in absurd z
+low-first (a ∷ b ∷ c ∷ d ∷ e ∷ f ∷ []) l = let z : ⊥ = omega arith in absurd z
+low-first (a ∷ b ∷ c ∷ d ∷ e ∷ f ∷ g ∷ []) l = let z : ⊥ = omega arith in absurd z
+low-first (a ∷ b ∷ c ∷ d ∷ e ∷ f ∷ g ∷ h ∷ []) l = omega arith
+low-first (a ∷ b ∷ c ∷ d ∷ e ∷ f ∷ g ∷ h ∷ i ∷ s) l = let z : ⊥ = omega arith in absurd z
 
 -- ---- a row of places read one by one
 

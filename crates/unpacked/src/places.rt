@@ -4,12 +4,6 @@ ghost use Rattle.unpacked.specs.Unpacked.{text_from, number_from, texts_in, numb
 
 use text::Text;
 
-fn wide(byte: u8) -> u64
-    ensures { (result ≡ byte) × (result < 256) }
-{
-    byte as u64
-}
-
 fn text_from(place: &[u8]) -> Text
     requires { length place.now ≡ 21 }
     ensures { result ≡ text_from place.now }
@@ -18,7 +12,7 @@ fn text_from(place: &[u8]) -> Text
     text::put(&mut bytes, 0, &place[1..]);
     Text {
         bytes,
-        len: wide(place[0]) as usize,
+        len: place[0] as usize,
     }
 }
 
@@ -26,13 +20,9 @@ fn number_from(place: &[u8]) -> u64
     requires { length place.now ≡ 8 }
     ensures { result ≡ number_from place.now }
 {
-    let mut number: u64 = 0;
-    let mut left = 8;
-    while 0 < left {
-        left -= 1;
-        number = number * 256 + wide(place[left]);
-    }
-    number
+    let mut bytes = [0u8; 8];
+    bytes.copy_from_slice(place);
+    u64::from_le_bytes(bytes)
 }
 
 pub(crate) fn texts_in(packed: &[u8]) -> [Text; 15]
@@ -40,11 +30,9 @@ pub(crate) fn texts_in(packed: &[u8]) -> [Text; 15]
     ensures { result ≡ texts_in packed.now }
 {
     let mut texts = [Text::BLANK; 15];
-    let mut i = 0;
-    while i < 15 {
+    for (i, text) in texts.iter_mut().enumerate() {
         let at = 4 + i * 21;
-        texts[i] = text_from(&packed[at..at + 21]);
-        i += 1;
+        *text = text_from(&packed[at..at + 21]);
     }
     texts
 }
@@ -54,11 +42,9 @@ pub(crate) fn numbers_in(packed: &[u8]) -> [u64; 7]
     ensures { result ≡ numbers_in packed.now }
 {
     let mut numbers = [0u64; 7];
-    let mut i = 0;
-    while i < 7 {
+    for (i, number) in numbers.iter_mut().enumerate() {
         let at = 319 + i * 8;
-        numbers[i] = number_from(&packed[at..at + 8]);
-        i += 1;
+        *number = number_from(&packed[at..at + 8]);
     }
     numbers
 }

@@ -98,6 +98,7 @@ pub fn walk(
     let mut fault = Verdict::PASS;
     let mut at = lines::behind(message, 4);
     let mut n = 5;
+    // The place goes on from line to line, and each line says where the next begins: no `for` is plainer.
     while at < message.len() {
         let line = lines::line_at(message, at);
         let stop = line.end;

@@ -44,10 +44,8 @@ fn put_header<'a>(
     ensures { (result ≡ behind_run buf.old 0 (head_parts (slot_at slots.now) (stretch_of text.now starts.now ends.now) header.now)) × (buf.new ≡ over_run buf.old 0 (head_parts (slot_at slots.now) (stretch_of text.now starts.now ends.now) header.now)) }
 {
     let mut at = 0;
-    let mut i = 0;
-    while i < header.len() {
-        at = put_line(buf, at, header[i], slots, text, starts, ends);
-        i += 1;
+    for &slot in header {
+        at = put_line(buf, at, slot, slots, text, starts, ends);
     }
     at
 }

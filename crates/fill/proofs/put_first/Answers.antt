@@ -1,10 +1,12 @@
 -- `fill::put_first` meets its contract. Assumes nothing.
-use borrow.Author.Tests.{eq-eqb, ne_eqb}
+use borrow.Author.Tests.{ne_eqb}
+use Rattle.layout.specs.declared.Kind.{Kind}
+use Rattle.fill.proofs.Rows.{apart}
 use Rattle.fill.proofs.Runs.{none-run}
 use Rattle.fill.proofs.put_first.Goals as goal
 
-pub returns-then-kind-ne8 : goal.returns-then-kind-ne8
-returns-then-kind-ne8 c = rw (ne_eqb _ 8 c.if-kind-ne8.true) (none-run _ _)
+pub returns-in-Mark : goal.returns-in-Mark
+returns-in-Mark c = rw (c.in-Mark.is, ← c.row_text.ensures) c.put_edge.ensures
 
-pub returns : goal.returns
-returns c = rw (eq-eqb _ 8 c.if-kind-ne8.false, ← c.row_text.ensures) c.put_edge.ensures
+pub returns-in_default : goal.returns-in_default
+returns-in_default c = rw (ne_eqb _ 8 (apart _ Kind.Mark c.in_default.not-Mark)) (none-run _ _)

@@ -1,4 +1,3 @@
-use Prim.Native.Nat.{◌-◌}
 use Rattle.fill.specs.Filling.{Lent, lent, behind_at, parts_at, filling}
 use Rattle.fill.proofs.Rows.{rows-begun, rows_more, rows-done}
 use Rattle.fill.proofs.put_rows.Goals as goal

@@ -1,4 +1,3 @@
-use Prim.Native.Nat.{◌-◌}
 use native.Mathlib.Omega.{arith}
 use Rattle.fitting.specs.Fitting.{Fitted}
 use Rattle.fitting.proofs.Glimpses.{onward-here, onward-more, edge-fits, field_fits}

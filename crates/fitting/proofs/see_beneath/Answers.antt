@@ -1,51 +1,47 @@
 -- `fitting::see_beneath` meets its contract. Assumes nothing.
-use Rattle.layout.specs.Rows.{row_of}
-use Rattle.layout.proofs.Laws.{row_at}
-use Rattle.layout.proofs.Rows.{NoneTo}
+use mathlib.Core.Path.{refl}
+use mathlib.Core.Logic.{inl, inr}
+use Rattle.layout.specs.declared.Kind.{Kind}
+use Rattle.layout.proofs.ByKind.{row_as, of_kind}
 use Rattle.fitting.specs.Fitting.{glimpse_beneath}
-use Rattle.fitting.proofs.Glimpses.{row-kind, out-beneath}
+use Rattle.fitting.proofs.Glimpses.{row-kind}
 use Rattle.fitting.proofs.see_beneath.Goals as goal
 
-pub returns-in-1 : goal.returns-in-1
-unfolding glimpse_beneath row_of
-returns-in-1 c = rw (row-kind _ _ 1 _ c.requires.0 c.in-1.is c.row_text-key.ensures) c.pass_over.ensures
+pub returns-in-Field : goal.returns-in-Field
+unfolding glimpse_beneath row_as
+returns-in-Field c =
+    elim c.in-Field.is [
+      | inl e ↦ rw (row-kind _ _ _ c.of.ensures Kind.Field e _ c.requires.0 c.row_text-key.ensures) c.pass_over.ensures
+      | inr e ↦ rw (row-kind _ _ _ c.of.ensures Kind.MayField e _ c.requires.0 c.row_text-key.ensures) c.pass_over.ensures
+    ]
 
-pub returns-in-2 : goal.returns-in-2
-unfolding glimpse_beneath row_of
-returns-in-2 c = rw (row-kind _ _ 2 _ c.requires.0 c.in-2.is c.row_text-key.ensures) c.pass_over-in-2.ensures
+pub returns-in-Opens : goal.returns-in-Opens
+unfolding glimpse_beneath row_as
+returns-in-Opens c =
+    elim c.in-Opens.is [
+      | inl e ↦ rw (of_kind _ _ _ c.of.ensures Kind.Opens e _ refl)
+      | inr (inl e) ↦ rw (of_kind _ _ _ c.of.ensures Kind.MayOpen e _ refl)
+      | inr (inr (inl e)) ↦ rw (of_kind _ _ _ c.of.ensures Kind.Many e _ refl)
+      | inr (inr (inr (inl e))) ↦ rw (of_kind _ _ _ c.of.ensures Kind.OneMore e _ refl)
+      | inr (inr (inr (inr e))) ↦ rw (of_kind _ _ _ c.of.ensures Kind.Mark e _ refl)
+    ]
 
-pub returns-in-3 : goal.returns-in-3
-unfolding glimpse_beneath row_of
-returns-in-3 c = rw (row_at, c.in-3.is)
+pub returns-in-ManyClose : goal.returns-in-ManyClose
+unfolding glimpse_beneath row_as
+returns-in-ManyClose c = rw (row-kind _ _ _ c.of.ensures Kind.ManyClose c.in-ManyClose.is _ c.requires.0 c.row_text-key.ensures) c.pass_over-in-ManyClose.ensures
 
-pub returns-in-4 : goal.returns-in-4
-unfolding glimpse_beneath row_of
-returns-in-4 c = rw (row_at, c.in-4.is)
+pub returns-in-Surplus : goal.returns-in-Surplus
+unfolding glimpse_beneath row_as
+returns-in-Surplus c =
+    elim c.in-Surplus.is [
+      | inl e ↦ rw (of_kind _ _ _ c.of.ensures Kind.Surplus e _ refl)
+      | inr e ↦ rw (of_kind _ _ _ c.of.ensures Kind.Only e _ refl)
+    ]
 
-pub returns-in-6 : goal.returns-in-6
-unfolding glimpse_beneath row_of
-returns-in-6 c = rw (row_at, c.in-6.is)
-
-pub returns-in-7 : goal.returns-in-7
-unfolding glimpse_beneath row_of
-returns-in-7 c = rw (row_at, c.in-7.is)
-
-pub returns-in-8 : goal.returns-in-8
-unfolding glimpse_beneath row_of
-returns-in-8 c = rw (row_at, c.in-8.is)
-
-pub returns-in-9 : goal.returns-in-9
-unfolding glimpse_beneath row_of
-returns-in-9 c = rw (row-kind _ _ 9 _ c.requires.0 c.in-9.is c.row_text-key.ensures) c.pass_over-in-9.ensures
-
-pub returns-in-10 : goal.returns-in-10
-unfolding glimpse_beneath row_of
-returns-in-10 c = rw (row_at, c.in-10.is)
-
-pub returns-in-11 : goal.returns-in-11
-unfolding glimpse_beneath row_of
-returns-in-11 c = rw (row_at, c.in-11.is)
-
-pub returns-in_default : goal.returns-in_default
-unfolding NoneTo
-returns-in_default c = rw (out-beneath _ _ _ _ _ c.in_default.in_default-own.rest)
+pub returns-in-Closes : goal.returns-in-Closes
+unfolding glimpse_beneath row_as
+returns-in-Closes c =
+    elim c.in-Closes.is [
+      | inl e ↦ rw (of_kind _ _ _ c.of.ensures Kind.Closes e _ refl)
+      | inr e ↦ rw (of_kind _ _ _ c.of.ensures Kind.End e _ refl)
+    ]

@@ -1,4 +1,4 @@
-use Prim.Native.Nat.{◌+◌, ◌-◌, ◌≤◌}
+use Prim.Native.Nat.{◌+◌, ◌≤◌}
 use mathlib.Core.Path.{refl}
 use lib.ListN.{length, drop, get_or, length-drop}
 use borrow.Author.Tests.{ne_eqb}
@@ -11,8 +11,8 @@ use Rattle.glance.specs.Steps.{Ended, Ends, HeadSays}
 use Rattle.glance.proofs.Turns.{head-begin, head-again, head-says}
 use Rattle.glance.proofs.take_header.Goals as goal
 
-pub loop-i-init : goal.loop-i-init
-loop-i-init c = head-begin _ _ _ _ _
+pub loop-slot-init : goal.loop-slot-init
+loop-slot-init c = head-begin _ _ _ _ _
 
 pub returns-then-slot-eq0 : goal.returns-then-slot-eq0
 unfolding HeadSays
@@ -26,10 +26,10 @@ pub overflow_add-at : goal.overflow_add-at
 unfolding Measured
 overflow_add-at c =
     let text = c.args.text.now in
-    let measured : Measured (slot_at c.args.slots.now (get_or c.args.header.now c.loop-i.i 0)) (drop c.loop-i.at text) (Is c.in-Is.n) =
-    rw (c.in-Is.is, rest_of c.loop-i.at (length text) text refl) at c.plain.ensures
+    let measured : Measured (slot_at c.args.slots.now (get_or c.args.header.now c.loop-slot.slot-index 0)) (drop c.loop-slot.at text) (Is c.in-Is.n) =
+    rw (c.in-Is.is, rest_of c.loop-slot.at (length text) text refl) at c.plain.ensures
     in
-    let ends-in : c.loop-i.at + c.in-Is.n ≤ length text = omega (arith, measured.0, length-drop c.loop-i.at text, c.loop-i.invariant.place) in
+    let ends-in : c.loop-slot.at + c.in-Is.n ≤ length text = omega (arith, measured.0, length-drop c.loop-slot.at text, c.loop-slot.invariant.place) in
     omega (arith, ends-in)
 
 pub returns-in_default-behind : goal.returns-in_default-behind
@@ -39,32 +39,32 @@ returns-in_default-behind c =
 
 pub overflow_cast-slot : goal.overflow_cast-slot
 overflow_cast-slot c =
-    omega (arith, c.type_inv.header c.loop-i.i)
+    omega (arith, c.type_inv.header c.loop-slot.slot-index)
 
-pub overflow_add-at-in-loop-i : goal.overflow_add-at-in-loop-i
+pub overflow_add-at-in-loop-slot : goal.overflow_add-at-in-loop-slot
 unfolding Measured
-overflow_add-at-in-loop-i c =
+overflow_add-at-in-loop-slot c =
     let text = c.args.text.now in
-    let measured : Measured (slot_at c.args.slots.now (get_or c.args.header.now c.loop-i.i 0)) (drop c.loop-i.at text) (Is c.in-Is.n) =
-    rw (c.in-Is.is, rest_of c.loop-i.at (length text) text refl) at c.plain.ensures
+    let measured : Measured (slot_at c.args.slots.now (get_or c.args.header.now c.loop-slot.slot-index 0)) (drop c.loop-slot.at text) (Is c.in-Is.n) =
+    rw (c.in-Is.is, rest_of c.loop-slot.at (length text) text refl) at c.plain.ensures
     in
-    let ends-in : c.loop-i.at + c.in-Is.n ≤ length text = omega (arith, measured.0, length-drop c.loop-i.at text, c.loop-i.invariant.place) in
+    let ends-in : c.loop-slot.at + c.in-Is.n ≤ length text = omega (arith, measured.0, length-drop c.loop-slot.at text, c.loop-slot.invariant.place) in
     omega (arith, ends-in)
 
 pub keep-requires : goal.keep-requires
 keep-requires c =
-    omega (arith, c.loop-i.invariant.place)
+    omega (arith, c.loop-slot.invariant.place)
 
-pub loop-i-preserved : goal.loop-i-preserved
+pub loop-slot-preserved : goal.loop-slot-preserved
 unfolding Ends
-loop-i-preserved c =
+loop-slot-preserved c =
     let text = c.args.text.now in
-    let measured : Measured (slot_at c.args.slots.now (get_or c.args.header.now c.loop-i.i 0)) (drop c.loop-i.at text) (Is c.in-Is.n) =
-    rw (c.in-Is.is, rest_of c.loop-i.at (length text) text refl) at c.plain.ensures
+    let measured : Measured (slot_at c.args.slots.now (get_or c.args.header.now c.loop-slot.slot-index 0)) (drop c.loop-slot.at text) (Is c.in-Is.n) =
+    rw (c.in-Is.is, rest_of c.loop-slot.at (length text) text refl) at c.plain.ensures
     in
-    let ended : Ended text (c.loop-i.at + c.in-Is.n) c.in-Is-behind.next = rw c.in-Is-behind.is at c.behind.ensures in
+    let ended : Ended text (c.loop-slot.at + c.in-Is.n) c.in-Is-behind.next = rw c.in-Is-behind.is at c.behind.ensures in
     let some = ne_eqb _ _ c.if-slot-eq0.false in
-    head-again _ _ _ _ _ _ _ _ _ c.loop-i.invariant _ _ measured ended c.loop-i-test.true _ _ (rw some at c.keep.ensures.0) (rw some at c.keep.ensures.1)
+    head-again _ _ _ _ _ _ _ _ _ c.loop-slot.invariant _ _ measured ended c.loop-slot-test.true _ _ (rw some at c.keep.ensures.0) (rw some at c.keep.ensures.1)
 
 pub returns : goal.returns
-returns c = head-says _ _ _ _ _ _ _ _ _ c.loop-i.invariant c.loop-i-test.false
+returns c = head-says _ _ _ _ _ _ _ _ _ c.loop-slot.invariant c.loop-slot-test.false

@@ -2,10 +2,10 @@
 use Rattle.layout.specs.Layout.{fits_or9}
 use Rattle.layout.proofs.fit.Goals as goal
 
-pub returns-then-passed : goal.returns-then-passed
+pub returns-then-way : goal.returns-then-way
 unfolding fits_or9
-returns-then-passed c = rw (c.if-passed.true, c.refuse.ensures)
+returns-then-way c = rw (c.if-way.true, c.refuse.ensures)
 
-pub returns-else-passed : goal.returns-else-passed
+pub returns-else-way : goal.returns-else-way
 unfolding fits_or9
-returns-else-passed c = rw c.if-passed.false
+returns-else-way c = rw c.if-way.false

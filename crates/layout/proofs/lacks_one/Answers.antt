@@ -1,11 +1,10 @@
-use Prim.Native.Nat.{◌+◌, ◌*◌, ◌-◌}
+use Prim.Native.Nat.{◌+◌, ◌*◌}
 use mathlib.Core.Path.{ap}
 use mathlib.Core.Bool.{not}
-use mathlib.Core.Logic.{inl, inr}
 use native.Mathlib.Omega.{arith}
 use Rattle.layout.proofs.Rows.{lacks-none, mark-unseen, mark-seen, lacks-end, lacks-more}
 use Rattle.layout.proofs.lacks_one.Goals as goal
-use Rattle.layout.proofs.lacks_one.Goals.{then-kind-eq8+else-not-is_seen, else-kind-eq8+else-kind-lt1+else-kind-gt11}
+use Rattle.layout.proofs.lacks_one.Goals.{in-Mark+else-not-is_seen, in_default}
 
 pub overflow_cast-table : goal.overflow_cast-table
 overflow_cast-table c = omega (arith, c.type_inv.table (c.loop-i.i * 16 + 1))
@@ -13,27 +12,22 @@ overflow_cast-table c = omega (arith, c.type_inv.table (c.loop-i.i * 16 + 1))
 pub returns-then-not-is_seen : goal.returns-then-not-is_seen
 returns-then-not-is_seen c =
     let a = c.args in
-    mark-unseen a.seen.now a.table.now a.row c.loop-i.i c.loop-i.invariant c.loop-i-test.true c.if-kind-eq8.true _ c.is_seen.ensures (ap not c.if-not-is_seen.true)
+    mark-unseen a.seen.now a.table.now a.row c.loop-i.i c.loop-i.invariant c.loop-i-test.true _ c.of.ensures c.in-Mark.is _ c.is_seen.ensures (ap not c.if-not-is_seen.true)
 
-pub returns-then-kind-lt1 : goal.returns-then-kind-lt1
-returns-then-kind-lt1 c =
+pub returns-in-End : goal.returns-in-End
+returns-in-End c =
     let a = c.args in
-    lacks-end a.seen.now a.table.now a.row c.loop-i.i c.loop-i.invariant c.loop-i-test.true (inl (omega arith))
-
-pub returns-then-kind-gt11 : goal.returns-then-kind-gt11
-returns-then-kind-gt11 c =
-    let a = c.args in
-    lacks-end a.seen.now a.table.now a.row c.loop-i.i c.loop-i.invariant c.loop-i-test.true (inr c.if-kind-gt11.true)
+    lacks-end a.seen.now a.table.now a.row c.loop-i.i c.loop-i.invariant c.loop-i-test.true _ c.of.ensures c.in-End.is
 
 pub loop-i-preserved : goal.loop-i-preserved
 loop-i-preserved c =
     let a = c.args in
     let h = c.loop-i-test.true in
-    elim c.if-kind-eq8.branch [
-      | then-kind-eq8+else-not-is_seen w ↦
-          mark-seen a.seen.now a.table.now a.row c.loop-i.i c.loop-i.invariant h w.if-kind-eq8.true _ w.is_seen.ensures (ap not w.if-not-is_seen.false)
-      | else-kind-eq8+else-kind-lt1+else-kind-gt11 w ↦
-          lacks-more a.seen.now a.table.now a.row c.loop-i.i c.loop-i.invariant h w.if-kind-lt1.false w.if-kind-gt11.false w.if-kind-eq8.false
+    elim c.match-of.branch [
+      | in-Mark+else-not-is_seen w ↦
+          mark-seen a.seen.now a.table.now a.row c.loop-i.i c.loop-i.invariant h _ c.of.ensures w.in-Mark.is _ w.is_seen.ensures (ap not w.if-not-is_seen.false)
+      | in_default w ↦
+          lacks-more a.seen.now a.table.now a.row c.loop-i.i c.loop-i.invariant h _ c.of.ensures w.in_default.not-Mark w.in_default.not-End
     ]
 
 pub returns : goal.returns

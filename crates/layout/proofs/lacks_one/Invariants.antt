@@ -1,6 +1,5 @@
 -- `layout::lacks_one` meets its contract. The loop's invariant: a mark is lacking from here on exactly when one is from the first row on.
 -- Assumes nothing.
-use Prim.Native.Nat.{◌-◌}
 use mathlib.Core.Path.{◌≡◌}
 use lib.ListN.{drop}
 use Rattle.layout.specs.Layout.{lacks}
@@ -9,6 +8,3 @@ use Rattle.layout.proofs.lacks_one.Given as goal
 
 abbrev pub invariant-loop-i : goal.invariant-loop-i
 invariant-loop-i l = lacks l.seen (drop l.i (rows_of l.table)) ≡ lacks l.seen (drop l.row (rows_of l.table))
-
-abbrev pub decreases-loop-i : goal.decreases-loop-i
-decreases-loop-i l = l.rows - l.i

@@ -3,10 +3,10 @@ use borrow.Author.Tests.{eq-eqb, ne_eqb}
 use Rattle.layout.specs.Layout.{look}
 use Rattle.layout.proofs.look_at.Goals as goal
 
-pub returns-then-deep-eq0 : goal.returns-then-deep-eq0
+pub returns-then-way-eq0 : goal.returns-then-way-eq0
 unfolding look
-returns-then-deep-eq0 c = rw (eq-eqb _ _ c.if-deep-eq0.true) c.look_against.ensures
+returns-then-way-eq0 c = rw (eq-eqb _ _ c.if-way-eq0.true) c.look_against.ensures
 
-pub returns-else-deep-eq0 : goal.returns-else-deep-eq0
+pub returns-else-way-eq0 : goal.returns-else-way-eq0
 unfolding look
-returns-else-deep-eq0 c = rw (ne_eqb _ _ c.if-deep-eq0.false) c.look_beneath.ensures
+returns-else-way-eq0 c = rw (ne_eqb _ _ c.if-way-eq0.false) c.look_beneath.ensures

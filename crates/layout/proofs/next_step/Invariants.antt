@@ -1,6 +1,6 @@
 -- `layout::next_step` meets its contract. The loop's invariant: the rows from here on say of the line what those from its place on say,
 -- and no more blocks are being passed over than there are rows before this one. Assumes nothing.
-use Prim.Native.Nat.{◌≤◌, ◌-◌}
+use Prim.Native.Nat.{◌≤◌}
 use mathlib.Core.Path.{◌≡◌}
 use lib.ListN.{drop}
 use Rattle.layout.specs.Layout.{scan, step_of}
@@ -8,7 +8,4 @@ use Rattle.layout.specs.Rows.{rows_of}
 use Rattle.layout.proofs.next_step.Given as goal
 
 abbrev pub invariant-loop-row : goal.invariant-loop-row
-invariant-loop-row l = (l.deep ≤ l.row) × (scan l.here l.seen l.line l.row (drop l.row (rows_of l.table)) l.deep l.unmarked l.passed ≡ step_of (rows_of l.table) l.here l.seen l.line)
-
-abbrev pub decreases-loop-row : goal.decreases-loop-row
-decreases-loop-row l = l.rows - l.row
+invariant-loop-row l = (l.way.here ≡ l.here) × (l.way.deep ≤ l.row) × (scan l.here l.seen l.line l.row (drop l.row (rows_of l.table)) l.way.deep l.way.unmarked l.way.passed ≡ step_of (rows_of l.table) l.here l.seen l.line)

@@ -1,15 +1,18 @@
 -- `fill::standing::has_value` meets its contract. Assumes nothing.
-use mathlib.Core.Path.{sym, ◌∙◌}
 use mathlib.Core.List.{[]}
-use borrow.Author.Tests.{eq-eqb, ne_eqb}
-use Rattle.fill.proofs.Rows.{has-by}
+use mathlib.Core.Logic.{inl, inr}
+use borrow.Author.Tests.{ne_eqb}
+use Rattle.layout.specs.declared.Kind.{Kind}
+use Rattle.layout.specs.Rows.{row_of}
+use Rattle.fill.specs.Filling.{has_value}
+use Rattle.fill.proofs.Rows.{apart, has-by}
 use Rattle.fill.proofs.standing.has_value.Goals as goal
 
-pub returns-then-either : goal.returns-then-either
-returns-then-either c = rw (has-by _ [] _ _, sym c.either.ensures ∙ c.if-either.true) c.is_there.ensures
+pub returns-in-Field : goal.returns-in-Field
+unfolding has_value row_of
+returns-in-Field c = elim c.in-Field.is [ inl e ↦ rw e c.is_there.ensures | inr (inl e) ↦ rw e c.is_there.ensures | inr (inr e) ↦ rw e c.is_there.ensures ]
 
-pub returns-then-kind-eq8 : goal.returns-then-kind-eq8
-returns-then-kind-eq8 c = rw (has-by _ [] _ _, sym c.either.ensures ∙ c.if-either.false, eq-eqb _ 8 c.if-kind-eq8.true) c.is_there-then-kind-eq8.ensures
-
-pub returns : goal.returns
-returns c = rw (has-by _ [] _ _, sym c.either.ensures ∙ c.if-either.false, ne_eqb _ 8 c.if-kind-eq8.false)
+pub returns-in_default : goal.returns-in_default
+returns-in_default c =
+    let n = c.in_default in
+    rw (has-by _ [] _ _, ne_eqb _ 1 (apart _ Kind.Field n.not-Field), ne_eqb _ 2 (apart _ Kind.MayField n.not-MayField), ne_eqb _ 8 (apart _ Kind.Mark n.not-Mark))

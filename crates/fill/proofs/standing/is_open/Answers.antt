@@ -1,9 +1,11 @@
 -- `fill::standing::is_open` meets its contract. Assumes nothing.
-use borrow.Author.Tests.{eq-eqb, ne_eqb}
+use borrow.Author.Tests.{ne_eqb}
+use Rattle.layout.specs.declared.Kind.{Kind}
+use Rattle.fill.proofs.Rows.{apart}
 use Rattle.fill.proofs.standing.is_open.Goals as goal
 
-pub returns-then-kind-eq4 : goal.returns-then-kind-eq4
-returns-then-kind-eq4 c = rw (eq-eqb _ 4 c.if-kind-eq4.true) c.any_value.ensures
+pub returns-in-MayOpen : goal.returns-in-MayOpen
+returns-in-MayOpen c = rw c.in-MayOpen.is c.any_value.ensures
 
-pub returns : goal.returns
-returns c = rw (ne_eqb _ 4 c.if-kind-eq4.false)
+pub returns-in_default : goal.returns-in_default
+returns-in_default c = rw (ne_eqb _ 4 (apart _ Kind.MayOpen c.in_default.not-MayOpen))

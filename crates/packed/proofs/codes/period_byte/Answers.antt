@@ -3,7 +3,6 @@ use Prim.Native.Nat.{◌≤◌}
 use native.Mathlib.Omega.{arith}
 use Rattle.packed.specs.Packed.{period_byte}
 use Rattle.packed.proofs.Laws.{at-most-le}
-use Rattle.packed.proofs.codes.at_most.Reads as at-most-reads
 use Rattle.packed.proofs.codes.period_byte.Goals as goal
 
 pub overflow_cast-result : goal.overflow_cast-result

@@ -1,7 +1,6 @@
 -- `packed::fields::moment_number` meets its contract. Assumes nothing.
 use native.Mathlib.Omega.{arith}
 use Rattle.packed.proofs.Bytes.{moment-in, moment-out}
-use Rattle.packed.proofs.codes.at_most.Reads as at-most-reads
 use Rattle.packed.proofs.fields.moment_number.Goals as goal
 
 pub returns-then-moment-gt18446744073709 : goal.returns-then-moment-gt18446744073709

@@ -1,6 +1,5 @@
 -- `packed::fields::numbers_of` meets its contract. Assumes nothing.
 use Rattle.packed.specs.Packed.{numbers}
-use Rattle.packed.proofs.fields.moment_number.Reads as moment-number-reads
 use Rattle.packed.proofs.fields.numbers_of.Goals as goal
 
 pub returns : goal.returns

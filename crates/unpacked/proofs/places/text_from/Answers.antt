@@ -6,6 +6,4 @@ use Rattle.unpacked.proofs.places.text_from.Goals as goal
 
 pub returns : goal.returns
 unfolding text_from
-returns c =
-    let t = text-taken c.args.place.now _ _ c.requires refl c.put.ensures.1 in
-    rw (t, c.wide.ensures.0)
+returns c = rw (text-taken c.args.place.now _ _ c.requires refl c.put.ensures.1)
