@@ -13,13 +13,13 @@ use lib.Dec.{leb, ltb, lit<}
 use lib.ListN.{length, take, drop, get_or, replicate, length-append, length-take, length-drop, length-replicate, drop_of_length-le}
 use lib.Seq.{drop-cons, take-suc, length-take-le, append_snoc, take_at, take-append-le, drop-append-le}
 use borrow.Author.Tests.{le-leb, lt-leb, lt-ltb, le-ltb, eq-eqb, ne_eqb}
+use Rattle.std.proofs.Common.{Some, None}
 use Rattle.text.specs.Bytes.{before}
 use Rattle.text.specs.Classes.{all_in, in_class}
 use Rattle.text.specs.Copy.{over, fits, placed}
 use Rattle.text.specs.declared.Class.TheVariants.{Digit}
 use Rattle.text.proofs.Laws.{all_append, drop-replicate, rest_of, placed-all}
 use Rattle.digits.specs.Numerals.{numeral, digits, digit_run, short_run, number_of, ten_to}
-use Rattle.digits.specs.declared.Number.TheVariants.{Is, Not}
 use Rattle.digits.proofs.Laws.{pow-add, number_is, number-not, numeral-lt, numeral-append, length_digits, run_length, run-digits, run-next}
 use Rattle.digits.proofs.Spelling.{Ran}
 use Rattle.amount.specs.Amounts.{whole, decimals, is_amount, trimmed, shortened, meaning_of, meaning, amount_read, parts_read, in_form, spread, amount_text, noughts}
@@ -73,14 +73,14 @@ module _ (n : ℕ) (f : List ℕ) (k : ℕ) (kept : k ≡ length (shortened f)) 
   within = let l = shortened-length f in omega arith
 
   module _ (few : length f ≤ 13) (low : n < 10 ^ (14 - length f)) where
-    pub rest-wrong : number_of (take k f) ≡ Not → Wrong ≡ parts_read n f
+    pub rest-wrong : number_of (take k f) ≡ None → Wrong ≡ parts_read n f
     unfolding parts_read
     rest-wrong e =
         let l = shortened-length f in
         let d : all_in Digit f ≡ false = shortened-all f ∙ number-not (shortened f) (omega arith) (sym (ap number_of front-is) ∙ e) in
         rw d
 
-    module _ (m t : ℕ) (tail : number_of (take k f) ≡ Is m) (power : t ≡ ten_to k) where
+    module _ (m t : ℕ) (tail : number_of (take k f) ≡ Some m) (power : t ≡ ten_to k) where
       power-is : t ≡ 10 ^ length (shortened f)
       unfolding ten_to
       power-is = let l = shortened-length f in power ∙ rw (kept, lt-ltb (length (shortened f)) 15 (omega arith))

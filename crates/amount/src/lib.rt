@@ -8,8 +8,6 @@ ghost use Rattle.std.specs.Prelude.{◌≡◌, ◌-◌, ◌^◌, ◌≤◌, ◌<
 ghost use Rattle.text.specs.Copy.{placed, after};
 ghost use Rattle.amount.specs.Amounts.{shortened, noughts, parts_read, amount_read, amount_number, in_form, spread, amount_text, nought, most, shortest_of};
 
-use digits::Number;
-
 // The digits of an amount as one whole number, and how many of them are decimals.
 #[derive(Clone, Copy)]
 pub struct Amount {
@@ -104,7 +102,7 @@ fn from_parts(whole: u64, rest: &[u8]) -> AmountRead
     ensures { result ≡ parts_read whole rest.now }
 {
     let decimals = lasting(rest);
-    let Number::Is(tail) = digits::read_digits(&rest[..decimals]) else {
+    let Some(tail) = digits::read_digits(&rest[..decimals]) else {
         return AmountRead::Wrong;
     };
     AmountRead::Good(Amount {

@@ -10,12 +10,11 @@ use lib.Arith.{digits_lt}
 use lib.Dec.{leb, ltb, eqb, lit<}
 use lib.ListN.{length}
 use borrow.Author.Tests.{leb-true, lt-ltb, le-ltb, ltb-true, ltb-false, eqb-true, eqb-false}
+use Rattle.std.proofs.Common.{Option, Some, None}
 use Rattle.text.specs.Classes.{all_in}
 use Rattle.text.specs.declared.Class.TheVariants.{Digit}
 use Rattle.text.proofs.Laws.{and_left, and_right}
 use Rattle.digits.specs.Numerals.{digits, wide_number}
-use Rattle.digits.specs.declared.Number.{Number}
-use Rattle.digits.specs.declared.Number.TheVariants.{Is, Not}
 use Rattle.digits.proofs.Laws.{length_digits, all_digits, fixed-digits, fixed_back}
 use Rattle.calendar.specs.Dates.{year, month, day, is_date, is_time, is_moment, earlier, date_from, date_read, moment_of, moment_from, moment_read, date_text, moment_text}
 use Rattle.calendar.specs.declared.Date.{Date}
@@ -106,12 +105,12 @@ record Form (T R : Type 0) (ok : T → Bool) (text : T → List ℕ) (read : Lis
   number : T → ℕ
   of : ℕ → T
   wrong : R
-  from : Number → R
+  from : Option ℕ → R
   short : width ≤ 18
   text-is : (t : T) → text t ≡ cond (ok t) (digits width (number t)) []
   read_is : (s : List ℕ) → read s ≡ from (wide_number width s)
-  from_is : (n : ℕ) → from (Is n) ≡ cond (ok (of n)) (good (of n)) wrong
-  from-not : from Not ≡ wrong
+  from_is : (n : ℕ) → from (Some n) ≡ cond (ok (of n)) (good (of n)) wrong
+  from-not : from None ≡ wrong
   small : (t : T) → ok t ≡ true → number t < 10 ^ width
   of_number : (t : T) → ok t ≡ true → of (number t) ≡ t
   number_of : (n : ℕ) → number (of n) ≡ n
@@ -135,11 +134,11 @@ module _ {T R : Type 0} {ok : T → Bool} {text : T → List ℕ} {read : List �
           (rw u at o, rw (← u) (f.number_of n))
       good_of n false o g = absurd (f.good-not t g)
 
-      go : (v : Number) → wide_number f.width s ≡ v → f.from v ≡ good t → (ok t ≡ true) × (text t ≡ s)
-      go (Is n) h g =
+      go : (v : Option ℕ) → wide_number f.width s ≡ v → f.from v ≡ good t → (ok t ≡ true) × (text t ≡ s)
+      go (Some n) h g =
           let o = good_of n (ok (f.of n)) refl (sym (f.from_is n) ∙ g) in
           (o.0, in-digits t o.0 ∙ rw o.1 (fixed_back f.width s n f.short h))
-      go Not h g = absurd (f.good-not t (sym f.from-not ∙ g))
+      go None h g = absurd (f.good-not t (sym f.from-not ∙ g))
 
   same : (s s' : List ℕ) (t : T) → read s ≡ good t → read s' ≡ good t → s ≡ s'
   same s s' t e e' = sym (back s t e).1 ∙ (back s' t e').1

@@ -1,9 +1,7 @@
 -- Document 01, "Dates": YYYYMMDD, year 0001 to 9999, Gregorian leap years; times 000000 to 235959 with minutes and seconds
 -- to 59; a date and time is 14 digits.
-use Rattle.std.specs.Prelude.{ℕ, ◌+◌, ◌*◌, ◌/◌, ◌%◌, Bool, ◌&&◌, ◌||◌, not, cond, List, [], ◌∷◌, leb, ltb, eqb, take, drop}
+use Rattle.std.specs.Prelude.{ℕ, ◌+◌, ◌*◌, ◌/◌, ◌%◌, Bool, ◌&&◌, ◌||◌, not, cond, List, [], ◌∷◌, leb, ltb, eqb, take, drop, Option, Some, None}
 use Rattle.digits.specs.Numerals.{numeral, digits, wide_number}
-use Rattle.digits.specs.declared.Number.{Number}
-use Rattle.digits.specs.declared.Number.TheVariants.{Is, Not}
 use Rattle.calendar.specs.declared.Date.{Date}
 use Rattle.calendar.specs.declared.Moment.{Moment}
 use Rattle.calendar.specs.declared.DateRead.{DateRead}
@@ -65,9 +63,9 @@ is_moment m = is_date m.date.0 && is_time m.time.0
 
 -- ---- reading: digits alone, as many as the form has, that name a day or a moment; anything else is wrong
 
-unfoldable pub date_from : Number → DateRead
-date_from (Is n) = cond (is_date n) (DateRead.Good (record { 0 = n })) DateRead.Wrong
-date_from Not = DateRead.Wrong
+unfoldable pub date_from : Option ℕ → DateRead
+date_from (Some n) = cond (is_date n) (DateRead.Good (record { 0 = n })) DateRead.Wrong
+date_from None = DateRead.Wrong
 
 unfoldable pub date_read : List ℕ → DateRead
 date_read s = date_from (wide_number 8 s)
@@ -76,9 +74,9 @@ date_read s = date_from (wide_number 8 s)
 unfoldable pub moment_of : ℕ → Moment
 moment_of n = record { date = record { 0 = n / 1000000 }; time = record { 0 = n % 1000000 } }
 
-unfoldable pub moment_from : Number → MomentRead
-moment_from (Is n) = cond (is_moment (moment_of n)) (MomentRead.Good (moment_of n)) MomentRead.Wrong
-moment_from Not = MomentRead.Wrong
+unfoldable pub moment_from : Option ℕ → MomentRead
+moment_from (Some n) = cond (is_moment (moment_of n)) (MomentRead.Good (moment_of n)) MomentRead.Wrong
+moment_from None = MomentRead.Wrong
 
 unfoldable pub moment_read : List ℕ → MomentRead
 moment_read s = moment_from (wide_number 14 s)
@@ -107,5 +105,5 @@ abbrev pub two : List ℕ → ℕ → ℕ
 two s at = numeral (take 2 (drop at s))
 
 -- a number that is a time of day
-unfoldable pub time_from : ℕ → Number
-time_from n = cond (is_time n) (Is n) Not
+unfoldable pub time_from : ℕ → Option ℕ
+time_from n = cond (is_time n) (Some n) None

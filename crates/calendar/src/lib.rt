@@ -3,12 +3,11 @@
 // What is right stands in specs/Dates.
 #![tactic(auto)]
 
-ghost use Rattle.std.specs.Prelude.{◌≡◌, ◌+◌, ◌<◌, ◌≤◌, true, length, take, drop};
+ghost use Rattle.std.specs.Prelude.{◌≡◌, ◌+◌, ◌<◌, ◌≤◌, true, length, take, drop, Some};
 ghost use Rattle.digits.specs.Numerals.{numeral, digits_alone};
 ghost use Rattle.text.specs.Copy.{placed, after};
 ghost use Rattle.calendar.specs.Dates.{leap, is_month, is_long, february, month_length, is_day, is_date, is_time, is_moment, earlier, two, date_from, time_from, date_read, date_number, moment_read, moment_number, date_text, moment_text};
 
-use digits::Number;
 use text::Class;
 
 // A date as the number YYYYMMDD that its digits spell.
@@ -151,7 +150,7 @@ fn pair(part: &[u8], at: usize) -> u64
 // The date of the first eight digits of a part. Year, month and day are read apart, so that nothing is divided for them.
 fn date_in(part: &[u8]) -> DateRead
     requires { (8 ≤ length part.now) × (digits_alone part.now ≡ true) }
-    ensures { result ≡ date_from (Number.Is (numeral (take 8 part.now))) }
+    ensures { result ≡ date_from (Some (numeral (take 8 part.now))) }
 {
     let year = pair(part, 0) * 100 + pair(part, 2);
     let month = pair(part, 4);
@@ -164,7 +163,7 @@ fn date_in(part: &[u8]) -> DateRead
 }
 
 // The time of day of the six digits behind those of a date.
-fn time_in(part: &[u8]) -> Number
+fn time_in(part: &[u8]) -> Option<u64>
     requires { (14 ≤ length part.now) × (digits_alone part.now ≡ true) }
     ensures { result ≡ time_from (numeral (take 6 (drop 8 part.now))) }
 {
@@ -172,15 +171,15 @@ fn time_in(part: &[u8]) -> Number
     let minute = pair(part, 10);
     let second = pair(part, 12);
     if 23 < hour {
-        return Number::Not;
+        return None;
     }
     if 59 < minute {
-        return Number::Not;
+        return None;
     }
     if 59 < second {
-        return Number::Not;
+        return None;
     }
-    Number::Is(hour * 10000 + minute * 100 + second)
+    Some(hour * 10000 + minute * 100 + second)
 }
 
 impl Date {
@@ -269,7 +268,7 @@ impl Moment {
         let DateRead::Good(date) = date_in(part) else {
             return MomentRead::Wrong;
         };
-        let Number::Is(time) = time_in(part) else {
+        let Some(time) = time_in(part) else {
             return MomentRead::Wrong;
         };
         MomentRead::Good(Moment {

@@ -10,13 +10,6 @@ ghost use Rattle.digits.specs.Numerals.{digits, run_of, number_of, ten_to};
 
 use text::Class;
 
-// A part of a message as a number.
-#[derive(Clone, Copy)]
-pub enum Number {
-    Is(u64),
-    Not,
-}
-
 // The digits that a part begins with: the number that they spell, and how many they are.
 #[derive(Clone, Copy)]
 pub struct Run {
@@ -67,15 +60,15 @@ pub fn front(part: &[u8]) -> Run
     Run { number: n, len: i }
 }
 
-// The number that a part of at most eighteen digits spells; no digits spell 0.
-pub fn read_digits(part: &[u8]) -> Number
+// The number that a part of at most eighteen digits spells; no digits spell 0, and any other part spells none.
+pub fn read_digits(part: &[u8]) -> Option<u64>
     ensures { result ≡ number_of part.now }
 {
     let run = front(part);
     if run.len == part.len() {
-        Number::Is(run.number)
+        Some(run.number)
     } else {
-        Number::Not
+        None
     }
 }
 

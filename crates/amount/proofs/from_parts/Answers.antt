@@ -17,17 +17,17 @@ returns-in_default c = rest-wrong c.args.whole _ _ c.lasting-decimals.ensures c.
 
 pub overflow_mul-result : goal.overflow_mul-result
 overflow_mul-result c =
-    let bound : c.args.whole * c.ten_to.result + c.in-Is.tail < 2 ^ 64 =
-    room _ _ _ c.lasting-decimals.ensures c.requires.0 c.requires.1 _ _ (sym c.read_digits.ensures ∙ c.in-Is.is) c.ten_to.ensures
+    let bound : c.args.whole * c.ten_to.result + c.in-Some.tail < 2 ^ 64 =
+    room _ _ _ c.lasting-decimals.ensures c.requires.0 c.requires.1 _ _ (sym c.read_digits.ensures ∙ c.in-Some.is) c.ten_to.ensures
     in
     let b = bound in omega arith
 
 pub overflow_add-result : goal.overflow_add-result
 overflow_add-result c =
-    let bound : c.args.whole * c.ten_to.result + c.in-Is.tail < 2 ^ 64 =
-    room _ _ _ c.lasting-decimals.ensures c.requires.0 c.requires.1 _ _ (sym c.read_digits.ensures ∙ c.in-Is.is) c.ten_to.ensures
+    let bound : c.args.whole * c.ten_to.result + c.in-Some.tail < 2 ^ 64 =
+    room _ _ _ c.lasting-decimals.ensures c.requires.0 c.requires.1 _ _ (sym c.read_digits.ensures ∙ c.in-Some.is) c.ten_to.ensures
     in
     let b = bound in omega arith
 
 pub returns : goal.returns
-returns c = parts-good _ _ _ c.lasting-decimals.ensures c.requires.0 c.requires.1 _ _ (sym c.read_digits.ensures ∙ c.in-Is.is) c.ten_to.ensures
+returns c = parts-good _ _ _ c.lasting-decimals.ensures c.requires.0 c.requires.1 _ _ (sym c.read_digits.ensures ∙ c.in-Some.is) c.ten_to.ensures
