@@ -24,7 +24,6 @@ use Rattle.digits.proofs.Laws.{pow-add, number_is, number-not, numeral-lt, numer
 use Rattle.digits.proofs.Spelling.{Ran}
 use Rattle.amount.specs.Amounts.{whole, decimals, is_amount, trimmed, shortened, meaning_of, meaning, amount_read, parts_read, in_form, spread, amount_text, noughts}
 use Rattle.amount.specs.declared.Amount.{Amount}
-use Rattle.amount.specs.declared.AmountRead.TheVariants.{Good, Wrong}
 use Rattle.amount.proofs.Laws.{few-decimals, front, rest, rest-length, rest-stays, text-parts}
 use Rattle.amount.proofs.Trims.{trimmed-drop, noughts-length, shortened-snoc, shortened-front, shortened-length, shortened-all, whole_run}
 
@@ -73,7 +72,7 @@ module _ (n : ℕ) (f : List ℕ) (k : ℕ) (kept : k ≡ length (shortened f)) 
   within = let l = shortened-length f in omega arith
 
   module _ (few : length f ≤ 13) (low : n < 10 ^ (14 - length f)) where
-    pub rest-wrong : number_of (take k f) ≡ None → Wrong ≡ parts_read n f
+    pub rest-wrong : number_of (take k f) ≡ None → None ≡ parts_read n f
     unfolding parts_read
     rest-wrong e =
         let l = shortened-length f in
@@ -97,18 +96,18 @@ module _ (n : ℕ) (f : List ℕ) (k : ℕ) (kept : k ≡ length (shortened f)) 
           let b : 10 ^ (14 - length f) * 10 ^ e ≤ 10 ^ 14 = rw (pow-add (14 - length f) e) at (pow-le-pow_right {n = 10} (lit< tt) j) in
           rw (power-is, ← tail-is.1) (lt_trans (lt_of_lt_of_le a b) (lit< tt))
 
-      pub parts-good : Good (record { number = n * t + m; decimals = k }) ≡ parts_read n f
+      pub parts-good : Some (record { number = n * t + m; decimals = k }) ≡ parts_read n f
       unfolding parts_read
       parts-good = rw (shortened-all f, tail-is.0, power-is, ← tail-is.1, kept)
 
 -- ---- a text and its comma
 
 module _ (s : List ℕ) where
-  pub too_long : 15 < length s → Wrong ≡ amount_read s
+  pub too_long : 15 < length s → None ≡ amount_read s
   unfolding amount_read is_amount
   too_long h = rw (lt-leb (length s) 15 h)
 
-  wrong-whole : all_in Digit (whole s) ≡ false → Wrong ≡ amount_read s
+  wrong-whole : all_in Digit (whole s) ≡ false → None ≡ amount_read s
   unfolding amount_read is_amount
   wrong-whole e = rw (e, and-false (leb 1 (length (whole s))), and-false (ltb (length (whole s)) (length s)), and-false (leb (length s) 15))
 
@@ -124,7 +123,7 @@ module _ (s : List ℕ) where
     whole_from : whole s ≡ digit_run s ++ whole (drop k s)
     whole_from = rw counted (whole_run s)
 
-    pub no-comma : k ≡ length s → Wrong ≡ amount_read s
+    pub no-comma : k ≡ length s → None ≡ amount_read s
     unfolding amount_read is_amount whole before
     no-comma h =
         let l : length s ≤ k = omega arith in
@@ -140,7 +139,7 @@ module _ (s : List ℕ) where
       next-is = drop-cons s k 0 inside
 
       -- what stands behind the digits is neither a digit nor the comma
-      pub no_digit : (get_or s k 0 ≡ 44 → ⊥) → Wrong ≡ amount_read s
+      pub no_digit : (get_or s k 0 ≡ 44 → ⊥) → None ≡ amount_read s
       unfolding whole before all_in
       no_digit h =
           let d : in_class Digit (get_or s k 0) ≡ false = rw counted (run-next s (rw counted at inside)) in
@@ -155,7 +154,7 @@ module _ (s : List ℕ) where
         whole-count : length (whole s) ≡ k
         whole-count = ap length whole_is ∙ sym counted
 
-        pub no_whole : k ≡ 0 → Wrong ≡ amount_read s
+        pub no_whole : k ≡ 0 → None ≡ amount_read s
         unfolding amount_read is_amount
         no_whole h = rw (le-leb (length s) 15 short, whole-count, h, and-false (ltb 0 (length s)))
 

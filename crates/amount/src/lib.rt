@@ -15,21 +15,13 @@ pub struct Amount {
     pub decimals: usize,
 }
 
-#[derive(Clone, Copy)]
-pub enum AmountRead {
-    Good(Amount),
-    Wrong,
-}
-
-impl AmountRead {
-    // The number that the desk gets.
-    pub fn number(self) -> u64
-        ensures { result ≡ amount_number self }
-    {
-        match self {
-            AmountRead::Good(_) => 0,
-            AmountRead::Wrong => 11,
-        }
+// The number that the desk gets for what a part was read as.
+pub fn number(read: Option<Amount>) -> u64
+    ensures { result ≡ amount_number read }
+{
+    match read {
+        Some(_) => 0,
+        None => 11,
     }
 }
 
@@ -97,15 +89,15 @@ pub fn shortest(part: &[u8]) -> Trim
 
 // The amount that the number of a whole part and decimals mean, where these are digits. The noughts at their end are digits, so
 // that only what is left of them has to be looked at.
-fn from_parts(whole: u64, rest: &[u8]) -> AmountRead
+fn from_parts(whole: u64, rest: &[u8]) -> Option<Amount>
     requires { (length rest.now ≤ 13) × (whole < 10 ^ (14 - length rest.now)) }
     ensures { result ≡ parts_read whole rest.now }
 {
     let decimals = lasting(rest);
     let Some(tail) = digits::read_digits(&rest[..decimals]) else {
-        return AmountRead::Wrong;
+        return None;
     };
-    AmountRead::Good(Amount {
+    Some(Amount {
         number: whole * digits::ten_to(decimals) + tail,
         decimals,
     })
@@ -136,22 +128,22 @@ impl Amount {
     }
 
     // A part of a message as an amount.
-    pub fn read(part: &[u8]) -> AmountRead
+    pub fn read(part: &[u8]) -> Option<Amount>
         ensures { result ≡ amount_read part.now }
     {
         if 15 < part.len() {
-            return AmountRead::Wrong;
+            return None;
         }
         let run = digits::front(part);
         let cut = run.len;
         if cut == part.len() {
-            return AmountRead::Wrong;
+            return None;
         }
         if part[cut] != b',' {
-            return AmountRead::Wrong;
+            return None;
         }
         if cut == 0 {
-            return AmountRead::Wrong;
+            return None;
         }
         from_parts(run.number, &part[cut + 1..])
     }

@@ -9,12 +9,12 @@ use native.Mathlib.Omega.{arith}
 use lib.Dec.{ltb}
 use lib.ListN.{length, drop, get_or, length-take}
 use borrow.Author.Tests.{ltb-true, lt-ltb}
+use Rattle.std.proofs.Common.{Some, None}
 use Rattle.text.specs.Bytes.{begins, same}
 use Rattle.text.specs.Classes.{all_in}
 use Rattle.text.specs.declared.Class.TheVariants.{Digit}
 use Rattle.text.proofs.Laws.{same-eq, begins-is}
 use Rattle.amount.specs.Amounts.{is_amount, meaning, amount_read, amount_number}
-use Rattle.amount.specs.declared.AmountRead.{AmountRead}
 use Rattle.calendar.specs.Dates.{date_read, date_number, moment_read, moment_number}
 use Rattle.calendar.specs.declared.DateRead.{DateRead}
 use Rattle.calendar.specs.declared.MomentRead.{MomentRead}
@@ -67,7 +67,7 @@ pub amount-good : (v : List ℕ) → amount_number (amount_read v) ≡ 0 → is_
 unfolding amount_read
 amount-good v e = go (is_amount v) e
   where
-    go : (b : Bool) → amount_number (cond b (AmountRead.Good (meaning v)) AmountRead.Wrong) ≡ 0 → b ≡ true
+    go : (b : Bool) → amount_number (cond b (Some (meaning v)) None) ≡ 0 → b ≡ true
     go true h = refl
     go false h = let z : ⊥ = omega arith in absurd z
 

@@ -91,7 +91,7 @@ fn judge_form(slots: &[u8], line: &[u8], value: &[u8]) -> u64
         0 => unless(value.len() == 0),
         1 => unless(text::is_code(value, wide(least), wide(most))),
         2 => unless(word_in(slots, least, most, value) < wide(most)),
-        3 => Amount::read(value).number(),
+        3 => amount::number(Amount::read(value)),
         4 => Date::read(value).number(),
         5 => Moment::read(value).number(),
         6 => unless(narrative::is_narrative(value)),

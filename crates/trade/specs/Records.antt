@@ -4,7 +4,6 @@ use Rattle.text.specs.Bytes.{bytes}
 use Rattle.text.specs.Texts.{text_of, blank}
 use Rattle.amount.specs.Amounts.{amount_read, nought}
 use Rattle.amount.specs.declared.Amount.{Amount}
-use Rattle.amount.specs.declared.AmountRead.{AmountRead}
 use Rattle.calendar.specs.Dates.{date_read, moment_read}
 use Rattle.calendar.specs.declared.Date.{Date}
 use Rattle.calendar.specs.declared.Moment.{Moment}

@@ -8,8 +8,8 @@ use mathlib.Core.List.{List, ◌∷◌}
 use native.Mathlib.Nat.{le_of_suc-le-suc, zero-lt-suc}
 use native.Mathlib.Omega.{arith}
 use lib.ListN.{length, get_or, get_or-eq_default}
+use Rattle.std.proofs.Common.{Some, None}
 use Rattle.amount.specs.Amounts.{is_amount, tidy, amount_read, amount_number, amount_text, meaning, in_form as amount_form}
-use Rattle.amount.specs.declared.AmountRead.{AmountRead}
 use Rattle.amount.proofs.Laws.{value-in-form, written-tidy}
 use Rattle.calendar.specs.Dates.{is_date, is_moment, date_read, date_number, date_text, moment_read, moment_number, moment_text}
 use Rattle.calendar.specs.declared.DateRead.{DateRead}
@@ -22,9 +22,9 @@ pub amount-held : (v : List ℕ) → amount_number (amount_read v) ≡ 0
 unfolding amount_read
 amount-held v e = go (is_amount v) refl e
   where
-    go : (b : Bool) → is_amount v ≡ b → amount_number (cond b (AmountRead.Good (meaning v)) AmountRead.Wrong) ≡ 0
-        → (amount_form (amount_or0 (cond b (AmountRead.Good (meaning v)) AmountRead.Wrong)) ≡ true)
-        × (amount_text (amount_or0 (cond b (AmountRead.Good (meaning v)) AmountRead.Wrong)) ≡ tidy v)
+    go : (b : Bool) → is_amount v ≡ b → amount_number (cond b (Some (meaning v)) None) ≡ 0
+        → (amount_form (amount_or0 (cond b (Some (meaning v)) None)) ≡ true)
+        × (amount_text (amount_or0 (cond b (Some (meaning v)) None)) ≡ tidy v)
     go true t h = (value-in-form v t, written-tidy v t)
     go false t h = let z : ⊥ = omega arith in absurd z
 

@@ -10,16 +10,16 @@ use native.Mathlib.Omega.{arith}
 use lib.Dec.{eqb}
 use lib.ListN.{length}
 use borrow.Author.Tests.{ne_eqb}
+use Rattle.std.proofs.Common.{Option}
 use Rattle.amount.specs.Amounts.{tidy, amount_read, amount_number, amount_text, in_form as amount_form}
 use Rattle.amount.specs.declared.Amount.{Amount}
-use Rattle.amount.specs.declared.AmountRead.{AmountRead}
 use Rattle.amount.proofs.Laws.{amount-comma, amount-round, written-amount}
 use Rattle.typed.specs.Typed.{amount_or0}
 use Rattle.typed.specs.Payments.{payment_in, payment_text, payment_form}
 use Rattle.typed.specs.declared.Payment.{Payment}
 use Rattle.typed.proofs.Laws.{amount-held}
 
-abbrev payment : AmountRead → Payment
+abbrev payment : Option Amount → Payment
 payment r = Payment.Of (record { 0 = amount_or0 r })
 
 -- a value that is there

@@ -16,7 +16,7 @@ ghost use Rattle.typed.specs.Typed.{amount_or0, date_or0, moment_or0};
 ghost use Rattle.typed.specs.Payments.{payment_in};
 ghost use Rattle.typed.specs.Prep.{prep_form};
 
-use amount::{Amount, AmountRead, Money};
+use amount::{Amount, Money};
 use calendar::{Date, DateRead, Moment, MomentRead, Time};
 use text::Text;
 
@@ -88,10 +88,7 @@ pub fn amount_at<'a, 'b>(
 ) -> Amount
     ensures { result ≡ amount_or0 (amount_read (stretch_of message.now starts.now ends.now slot)) }
 {
-    match Amount::read(stretches::stretch(message, starts, ends, slot)) {
-        AmountRead::Good(amount) => amount,
-        AmountRead::Wrong => Amount::ZERO,
-    }
+    Amount::read(stretches::stretch(message, starts, ends, slot)).unwrap_or(Amount::ZERO)
 }
 
 // A payment; absent where there is no value, and a sum of zero where the value is none.

@@ -6,7 +6,7 @@ use Rattle.forms.specs.Forms.{unless, form_number}
 use Rattle.forms.specs.Slots.{form_of}
 use Rattle.forms.proofs.Parts.{words-number, past-nine, no-form}
 use Rattle.amount.proofs.Amount.read.Reads as Amount-read-reads
-use Rattle.amount.proofs.AmountRead.number.Reads as AmountRead-number-reads
+use Rattle.amount.proofs.number.Reads as number-reads
 use Rattle.calendar.proofs.Date.read.Reads as Date-read-reads
 use Rattle.calendar.proofs.DateRead.number.Reads as DateRead-number-reads
 use Rattle.calendar.proofs.Moment.read.Reads as Moment-read-reads
