@@ -6,7 +6,7 @@
 ghost use Rattle.std.specs.Prelude.{◌≡◌, ◌+◌, ◌<◌, ◌≤◌, true, length, take, drop, Some};
 ghost use Rattle.digits.specs.Numerals.{numeral, digits_alone};
 ghost use Rattle.text.specs.Copy.{placed, after};
-ghost use Rattle.calendar.specs.Dates.{leap, is_month, is_long, february, month_length, is_day, is_date, is_time, is_moment, earlier, two, date_from, time_from, date_read, date_number, moment_read, moment_number, date_text, moment_text};
+ghost use Rattle.calendar.specs.Dates.{leap, is_month, is_long, february, month_length, is_day, is_date, is_time, is_moment, earlier, two, date_from, time_from, date_read, read_number, moment_read, date_text, moment_text};
 
 use text::Class;
 
@@ -24,39 +24,13 @@ pub struct Moment {
     pub time: Time,
 }
 
-#[derive(Clone, Copy)]
-pub enum DateRead {
-    Good(Date),
-    Wrong,
-}
-
-#[derive(Clone, Copy)]
-pub enum MomentRead {
-    Good(Moment),
-    Wrong,
-}
-
-impl DateRead {
-    // The number that the desk gets.
-    pub fn number(self) -> u64
-        ensures { result ≡ date_number self }
-    {
-        match self {
-            DateRead::Good(_) => 0,
-            DateRead::Wrong => 12,
-        }
-    }
-}
-
-impl MomentRead {
-    // The number that the desk gets.
-    pub fn number(self) -> u64
-        ensures { result ≡ moment_number self }
-    {
-        match self {
-            MomentRead::Good(_) => 0,
-            MomentRead::Wrong => 12,
-        }
+// The number that the desk gets for what a part was read as, a date or a moment.
+pub fn number<T: Copy>(read: Option<T>) -> u64
+    ensures { result ≡ read_number read }
+{
+    match read {
+        Some(_) => 0,
+        None => 12,
     }
 }
 
@@ -148,7 +122,7 @@ fn pair(part: &[u8], at: usize) -> u64
 }
 
 // The date of the first eight digits of a part. Year, month and day are read apart, so that nothing is divided for them.
-fn date_in(part: &[u8]) -> DateRead
+fn date_in(part: &[u8]) -> Option<Date>
     requires { (8 ≤ length part.now) × (digits_alone part.now ≡ true) }
     ensures { result ≡ date_from (Some (numeral (take 8 part.now))) }
 {
@@ -156,9 +130,9 @@ fn date_in(part: &[u8]) -> DateRead
     let month = pair(part, 4);
     let day = pair(part, 6);
     if is_day(year, month as usize, day) {
-        DateRead::Good(Date(year * 10000 + month * 100 + day))
+        Some(Date(year * 10000 + month * 100 + day))
     } else {
-        DateRead::Wrong
+        None
     }
 }
 
@@ -191,16 +165,16 @@ impl Date {
     }
 
     // The eight digits of a part as a date.
-    pub fn read(part: &[u8]) -> DateRead
+    pub fn read(part: &[u8]) -> Option<Date>
         ensures { result ≡ date_read part.now }
     {
         if part.len() != 8 {
-            return DateRead::Wrong;
+            return None;
         }
         if text::all_in(Class::Digit, part) {
             date_in(part)
         } else {
-            DateRead::Wrong
+            None
         }
     }
 
@@ -253,25 +227,25 @@ impl Moment {
 
     // The fourteen digits of a part as a date and time. Eight bytes are looked at at once, and so two of them twice: that is
     // less work than eight and six.
-    pub fn read(part: &[u8]) -> MomentRead
+    pub fn read(part: &[u8]) -> Option<Moment>
         ensures { result ≡ moment_read part.now }
     {
         if part.len() != 14 {
-            return MomentRead::Wrong;
+            return None;
         }
         if !text::all_in(Class::Digit, &part[..8]) {
-            return MomentRead::Wrong;
+            return None;
         }
         if !text::all_in(Class::Digit, &part[6..]) {
-            return MomentRead::Wrong;
+            return None;
         }
-        let DateRead::Good(date) = date_in(part) else {
-            return MomentRead::Wrong;
+        let Some(date) = date_in(part) else {
+            return None;
         };
         let Some(time) = time_in(part) else {
-            return MomentRead::Wrong;
+            return None;
         };
-        MomentRead::Good(Moment {
+        Some(Moment {
             date,
             time: Time(time),
         })

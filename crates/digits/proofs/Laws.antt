@@ -213,7 +213,7 @@ fixed_back width s n w e = go (eqb (length s) width && all_in Digit s) refl (sym
         let m : numeral s ≡ n = cc in
         let l : length s ≡ width = eqb-true _ _ (and_left _ _ t) in
         rw (← m, ← l) (digits-numeral s (and_right (eqb (length s) width) _ t))
-    go false t h = let z : ◌≡◌ {A = ℕ} 0 1 = cc in absurd (omega arith)
+    go false t h = cc
 
 -- ---- what a number that was read, or was not, tells of the part
 
@@ -223,12 +223,12 @@ number_is s n e = go (leb (length s) 18 && all_in Digit s) refl e
   where
     go : (b : Bool) → (leb (length s) 18 && all_in Digit s) ≡ b → cond b (Some (numeral s)) None ≡ Some n → (all_in Digit s ≡ true) × (numeral s ≡ n)
     go true t h = (and_right (leb (length s) 18) _ t, cc)
-    go false t h = let z : ◌≡◌ {A = ℕ} 0 1 = cc in absurd (omega arith)
+    go false t h = cc
 
 pub number-not : (s : List ℕ) → length s ≤ 18 → number_of s ≡ None → all_in Digit s ≡ false
 unfolding number_of
 number-not s short e = go (all_in Digit s) (rw (le-leb (length s) 18 short) at e)
   where
     go : (b : Bool) → cond b (Some (numeral s)) None ≡ None → b ≡ false
-    go true h = let z : ◌≡◌ {A = ℕ} 0 1 = cc in absurd (omega arith)
+    go true h = cc
     go false h = refl

@@ -17,8 +17,8 @@ use Rattle.blocks.specs.Blocks.{Turn, goes, stops, over, ending, opening, closin
 use Rattle.amount.specs.Amounts.{amount_read, amount_number}
 use Rattle.amount.specs.declared.Amount.{Amount}
 use Rattle.calendar.specs.Dates.{date_read, date_number, moment_read, moment_number}
-use Rattle.calendar.specs.declared.DateRead.{DateRead}
-use Rattle.calendar.specs.declared.MomentRead.{MomentRead}
+use Rattle.calendar.specs.declared.Date.{Date}
+use Rattle.calendar.specs.declared.Moment.{Moment}
 use Rattle.forms.specs.Forms.{Form, nothing, codes, characters, words, amount, date, moment, narrative, pool_narrative, other, Slot, is_word, unless, form_number, value_number}
 use Rattle.text.specs.Classes.{is_all, is_code}
 use Rattle.forms.specs.Narrative.{is_narrative}
@@ -128,13 +128,13 @@ amount-few : (r : Option Amount) → FewOf (amount_number r)
 amount-few (Some a) = few _ _ refl
 amount-few None = few _ _ refl
 
-date-few : (r : DateRead) → FewOf (date_number r)
-date-few (DateRead.Good d) = few _ _ refl
-date-few DateRead.Wrong = few _ _ refl
+date-few : (r : Option Date) → FewOf (date_number r)
+date-few (Some d) = few _ _ refl
+date-few None = few _ _ refl
 
-moment-few : (r : MomentRead) → FewOf (moment_number r)
-moment-few (MomentRead.Good m) = few _ _ refl
-moment-few MomentRead.Wrong = few _ _ refl
+moment-few : (r : Option Moment) → FewOf (moment_number r)
+moment-few (Some m) = few _ _ refl
+moment-few None = few _ _ refl
 
 unless-few : (b : Bool) → FewOf (unless b)
 unfolding unless

@@ -91,7 +91,7 @@ fn date_width(text: &[u8]) -> Width
     if text.len() < 8 {
         return Width::Not;
     }
-    if Date::read(&text[..8]).number() == 0 {
+    if Date::read(&text[..8]).is_some() {
         Width::Is(8)
     } else {
         Width::Not
@@ -104,7 +104,7 @@ fn moment_width(text: &[u8]) -> Width
     if text.len() < 14 {
         return Width::Not;
     }
-    if Moment::read(&text[..14]).number() == 0 {
+    if Moment::read(&text[..14]).is_some() {
         Width::Is(14)
     } else {
         Width::Not

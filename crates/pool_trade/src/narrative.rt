@@ -3,7 +3,7 @@ ghost use Rattle.std.specs.Prelude.{◌≡◌};
 ghost use Rattle.pool_trade.specs.Narrative.{delivery_of, reason_of};
 
 use super::Delivery;
-use calendar::{Date, DateRead};
+use calendar::Date;
 use text::Text;
 
 pub(crate) fn delivery_of(value: &[u8]) -> Delivery
@@ -13,8 +13,8 @@ pub(crate) fn delivery_of(value: &[u8]) -> Delivery
         return Delivery::Absent;
     }
     match Date::read(forms::pool::delivery_in(value)) {
-        DateRead::Good(date) => Delivery::On(date),
-        DateRead::Wrong => Delivery::On(Date(0)),
+        Some(date) => Delivery::On(date),
+        None => Delivery::On(Date(0)),
     }
 }
 

@@ -7,8 +7,6 @@ use Rattle.amount.specs.declared.Amount.{Amount}
 use Rattle.calendar.specs.Dates.{date_read, moment_read}
 use Rattle.calendar.specs.declared.Date.{Date}
 use Rattle.calendar.specs.declared.Moment.{Moment}
-use Rattle.calendar.specs.declared.DateRead.{DateRead}
-use Rattle.calendar.specs.declared.MomentRead.{MomentRead}
 use Rattle.forms.specs.Forms.{word_at}
 use Rattle.typed.specs.Typed.{amount_or0, date_or0, moment_or0}
 use Rattle.typed.specs.Sides.{side_in}

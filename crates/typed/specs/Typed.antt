@@ -4,17 +4,15 @@ use Rattle.amount.specs.Amounts.{nought}
 use Rattle.amount.specs.declared.Amount.{Amount}
 use Rattle.calendar.specs.declared.Date.{Date}
 use Rattle.calendar.specs.declared.Moment.{Moment}
-use Rattle.calendar.specs.declared.DateRead.{DateRead}
-use Rattle.calendar.specs.declared.MomentRead.{MomentRead}
 
 abbrev pub amount_or0 : Option Amount → Amount
 amount_or0 (Some a) = a
 amount_or0 None = nought
 
-abbrev pub date_or0 : DateRead → Date
-date_or0 (DateRead.Good d) = d
-date_or0 DateRead.Wrong = record { 0 = 0 }
+abbrev pub date_or0 : Option Date → Date
+date_or0 (Some d) = d
+date_or0 None = record { 0 = 0 }
 
-abbrev pub moment_or0 : MomentRead → Moment
-moment_or0 (MomentRead.Good m) = m
-moment_or0 MomentRead.Wrong = record { date = record { 0 = 0 }; time = record { 0 = 0 } }
+abbrev pub moment_or0 : Option Moment → Moment
+moment_or0 (Some m) = m
+moment_or0 None = record { date = record { 0 = 0 }; time = record { 0 = 0 } }

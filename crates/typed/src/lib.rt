@@ -17,7 +17,7 @@ ghost use Rattle.typed.specs.Payments.{payment_in};
 ghost use Rattle.typed.specs.Prep.{prep_form};
 
 use amount::{Amount, Money};
-use calendar::{Date, DateRead, Moment, MomentRead, Time};
+use calendar::{Date, Moment, Time};
 use text::Text;
 
 // Whether the sender buys or sells.
@@ -55,13 +55,10 @@ pub fn moment_at<'a, 'b>(
 ) -> Moment
     ensures { result ≡ moment_or0 (moment_read (stretch_of message.now starts.now ends.now slot)) }
 {
-    match Moment::read(stretches::stretch(message, starts, ends, slot)) {
-        MomentRead::Good(moment) => moment,
-        MomentRead::Wrong => Moment {
-            date: Date(0),
-            time: Time(0),
-        },
-    }
+    Moment::read(stretches::stretch(message, starts, ends, slot)).unwrap_or(Moment {
+        date: Date(0),
+        time: Time(0),
+    })
 }
 
 // A date; 0 where the value is none.
@@ -73,10 +70,7 @@ pub fn date_at<'a, 'b>(
 ) -> Date
     ensures { result ≡ date_or0 (date_read (stretch_of message.now starts.now ends.now slot)) }
 {
-    match Date::read(stretches::stretch(message, starts, ends, slot)) {
-        DateRead::Good(date) => date,
-        DateRead::Wrong => Date(0),
-    }
+    Date::read(stretches::stretch(message, starts, ends, slot)).unwrap_or(Date(0))
 }
 
 // An amount; zero where the value is none.

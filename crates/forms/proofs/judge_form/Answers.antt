@@ -8,9 +8,8 @@ use Rattle.forms.proofs.Parts.{words-number, past-nine, no-form}
 use Rattle.amount.proofs.Amount.read.Reads as Amount-read-reads
 use Rattle.amount.proofs.number.Reads as number-reads
 use Rattle.calendar.proofs.Date.read.Reads as Date-read-reads
-use Rattle.calendar.proofs.DateRead.number.Reads as DateRead-number-reads
+use Rattle.calendar.proofs.number.Reads as calendar-number-reads
 use Rattle.calendar.proofs.Moment.read.Reads as Moment-read-reads
-use Rattle.calendar.proofs.MomentRead.number.Reads as MomentRead-number-reads
 use Rattle.forms.proofs.judge_form.Goals as goal
 
 pub returns-in-0 : goal.returns-in-0

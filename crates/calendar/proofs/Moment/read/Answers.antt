@@ -72,7 +72,7 @@ returns-in_default-time_in c =
     overlap s (sym c.all_in.ensures ∙ not-false _ c.if-not-all_in.false-raw)
     (sym (ap (all_in Digit) (rest_of 6 _ s refl)) ∙ sym c.all_in-2.ensures ∙ not-false _ c.if-not-all_in-2.false-raw)
     in
-    no-time _ size all _ (sym c.date_in.ensures ∙ c.in-Good.is) (sym c.time_in.ensures ∙ c.in_default-time_in.is)
+    no-time _ size all _ (sym c.date_in.ensures ∙ c.in-Some.is) (sym c.time_in.ensures ∙ c.in_default-time_in.is)
 
 pub returns : goal.returns
 returns c =
@@ -84,4 +84,4 @@ returns c =
     overlap s (sym c.all_in.ensures ∙ not-false _ c.if-not-all_in.false-raw)
     (sym (ap (all_in Digit) (rest_of 6 _ s refl)) ∙ sym c.all_in-2.ensures ∙ not-false _ c.if-not-all_in-2.false-raw)
     in
-    moment-good _ size all _ (sym c.date_in.ensures ∙ c.in-Good.is) _ (sym c.time_in.ensures ∙ c.in-Some.is)
+    moment-good _ size all _ (sym c.date_in.ensures ∙ c.in-Some.is) _ (sym c.time_in.ensures ∙ c.in-Some-time_in.is)
