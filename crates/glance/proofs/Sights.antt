@@ -7,6 +7,7 @@ use mathlib.Core.List.{List, ◌++◌}
 use native.Mathlib.Omega.{arith}
 use lib.ListN.{length, take, drop, length-drop, take-append-drop}
 use lib.Seq.{take-take}
+use Rattle.std.proofs.Common.{Some}
 use Rattle.text.specs.Bytes.{before}
 use Rattle.text.specs.Classes.{printed}
 use Rattle.text.proofs.Printed.{printed-append}
@@ -18,7 +19,6 @@ use Rattle.layout.specs.Layout.{step_of}
 use Rattle.layout.specs.declared.Place.{Place}
 use Rattle.layout.specs.declared.Step.{Step}
 use Rattle.measure.specs.Measure.{clean_slot, Measured}
-use Rattle.measure.specs.declared.Width.TheVariants.{Is}
 use Rattle.fitting.specs.Fitting.{clean_rows, Fits, Fitted}
 use Rattle.fitting.specs.declared.Fit.TheVariants.{Edge, Field}
 use Rattle.glance.specs.Steps.{Ended, Tells, Sees, Told, FieldSeen}
@@ -26,7 +26,7 @@ use Rattle.glance.specs.declared.Taken.{Taken}
 use Rattle.glance.proofs.Lines.{told-first}
 
 -- a value behind the text of its row, as so many bytes behind it
-pub field-seen : (slot : Slot) (s : List ℕ) (step : Step) (width n : ℕ) (t : Taken) → width ≤ length s → Measured slot (drop width s) (Is n) → Told s step width (width + n) t
+pub field-seen : (slot : Slot) (s : List ℕ) (step : Step) (width n : ℕ) (t : Taken) → width ≤ length s → Measured slot (drop width s) (Some n) → Told s step width (width + n) t
     → FieldSeen slot s step width t
 unfolding Measured Told FieldSeen
 field-seen slot s step width n t h m k is =

@@ -2,11 +2,11 @@ use Prim.Native.Nat.{◌+◌, ◌-◌, ◌≤◌}
 use mathlib.Core.Path.{refl}
 use lib.ListN.{length, drop, get_or, length-drop}
 use borrow.Author.Tests.{ne_eqb}
+use Rattle.std.proofs.Common.{Some}
 use Rattle.text.proofs.Laws.{rest_of}
 use native.Mathlib.Omega.{arith}
 use Rattle.forms.specs.Slots.{slot_at}
 use Rattle.measure.specs.Measure.{Measured}
-use Rattle.measure.specs.declared.Width.TheVariants.{Is}
 use Rattle.glance.specs.Steps.{Ended, Ends, HeadSays}
 use Rattle.glance.proofs.Turns.{head-begin, head-again, head-says}
 use Rattle.glance.proofs.take_header.Goals as goal
@@ -26,7 +26,7 @@ pub overflow_add-at : goal.overflow_add-at
 unfolding Measured
 overflow_add-at c =
     let text = c.args.text.now in
-    let measured : Measured (slot_at c.args.slots.now (get_or c.args.header.now c.loop-i.i 0)) (drop c.loop-i.at text) (Is c.in-Is.n) =
+    let measured : Measured (slot_at c.args.slots.now (get_or c.args.header.now c.loop-i.i 0)) (drop c.loop-i.at text) (Some c.in-Is.n) =
     rw (c.in-Is.is, rest_of c.loop-i.at (length text) text refl) at c.plain.ensures
     in
     let ends-in : c.loop-i.at + c.in-Is.n ≤ length text = omega (arith, measured.0, length-drop c.loop-i.at text, c.loop-i.invariant.place) in
@@ -45,7 +45,7 @@ pub overflow_add-at-in-loop-i : goal.overflow_add-at-in-loop-i
 unfolding Measured
 overflow_add-at-in-loop-i c =
     let text = c.args.text.now in
-    let measured : Measured (slot_at c.args.slots.now (get_or c.args.header.now c.loop-i.i 0)) (drop c.loop-i.at text) (Is c.in-Is.n) =
+    let measured : Measured (slot_at c.args.slots.now (get_or c.args.header.now c.loop-i.i 0)) (drop c.loop-i.at text) (Some c.in-Is.n) =
     rw (c.in-Is.is, rest_of c.loop-i.at (length text) text refl) at c.plain.ensures
     in
     let ends-in : c.loop-i.at + c.in-Is.n ≤ length text = omega (arith, measured.0, length-drop c.loop-i.at text, c.loop-i.invariant.place) in
@@ -59,7 +59,7 @@ pub loop-i-preserved : goal.loop-i-preserved
 unfolding Ends
 loop-i-preserved c =
     let text = c.args.text.now in
-    let measured : Measured (slot_at c.args.slots.now (get_or c.args.header.now c.loop-i.i 0)) (drop c.loop-i.at text) (Is c.in-Is.n) =
+    let measured : Measured (slot_at c.args.slots.now (get_or c.args.header.now c.loop-i.i 0)) (drop c.loop-i.at text) (Some c.in-Is.n) =
     rw (c.in-Is.is, rest_of c.loop-i.at (length text) text refl) at c.plain.ensures
     in
     let ended : Ended text (c.loop-i.at + c.in-Is.n) c.in-Is-behind.next = rw c.in-Is-behind.is at c.behind.ensures in

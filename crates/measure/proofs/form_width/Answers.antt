@@ -44,6 +44,3 @@ pub returns-in-9 : goal.returns-in-9
 unfolding form_of
 returns-in-9 c = rw c.in-9.is c.characters_width-in-9.ensures
 
-pub returns-in_default : goal.returns-in_default
-unfolding FormMeasured
-returns-in_default c = tt

@@ -12,6 +12,3 @@ pub returns-in-1 : goal.returns-in-1
 unfolding form_of
 returns-in-1 c = rw c.in-1.is (code-told _ _ _ _ c.characters_width.ensures)
 
-pub returns-in_default : goal.returns-in_default
-unfolding FormMeasured
-returns-in_default c = tt
