@@ -14,28 +14,15 @@ use Rattle.glance.proofs.take_header.Goals as goal
 pub loop-i-init : goal.loop-i-init
 loop-i-init c = head-begin _ _ _ _ _
 
-pub returns-then-slot-eq0 : goal.returns-then-slot-eq0
-unfolding HeadSays
-returns-then-slot-eq0 c = tt
-
-pub returns-in_default : goal.returns-in_default
-unfolding HeadSays
-returns-in_default c = tt
-
 pub overflow_add-at : goal.overflow_add-at
 unfolding Measured
 overflow_add-at c =
     let text = c.args.text.now in
-    let measured : Measured (slot_at c.args.slots.now (get_or c.args.header.now c.loop-i.i 0)) (drop c.loop-i.at text) (Some c.in-Is.n) =
-    rw (c.in-Is.is, rest_of c.loop-i.at (length text) text refl) at c.plain.ensures
+    let measured : Measured (slot_at c.args.slots.now (get_or c.args.header.now c.loop-i.i 0)) (drop c.loop-i.at text) (Some c.in_ok-n.n) =
+    rw (rest_of c.loop-i.at (length text) text refl) at c.in_ok-n.ensures
     in
-    let ends-in : c.loop-i.at + c.in-Is.n ≤ length text = omega (arith, measured.0, length-drop c.loop-i.at text, c.loop-i.invariant.place) in
+    let ends-in : c.loop-i.at + c.in_ok-n.n ≤ length text = omega (arith, measured.0, length-drop c.loop-i.at text, c.loop-i.invariant.place) in
     omega (arith, ends-in)
-
-pub returns-in_default-behind : goal.returns-in_default-behind
-unfolding HeadSays
-returns-in_default-behind c =
-    tt
 
 pub overflow_cast-slot : goal.overflow_cast-slot
 overflow_cast-slot c =
@@ -45,10 +32,10 @@ pub overflow_add-at-in-loop-i : goal.overflow_add-at-in-loop-i
 unfolding Measured
 overflow_add-at-in-loop-i c =
     let text = c.args.text.now in
-    let measured : Measured (slot_at c.args.slots.now (get_or c.args.header.now c.loop-i.i 0)) (drop c.loop-i.at text) (Some c.in-Is.n) =
-    rw (c.in-Is.is, rest_of c.loop-i.at (length text) text refl) at c.plain.ensures
+    let measured : Measured (slot_at c.args.slots.now (get_or c.args.header.now c.loop-i.i 0)) (drop c.loop-i.at text) (Some c.in_ok-n.n) =
+    rw (rest_of c.loop-i.at (length text) text refl) at c.in_ok-n.ensures
     in
-    let ends-in : c.loop-i.at + c.in-Is.n ≤ length text = omega (arith, measured.0, length-drop c.loop-i.at text, c.loop-i.invariant.place) in
+    let ends-in : c.loop-i.at + c.in_ok-n.n ≤ length text = omega (arith, measured.0, length-drop c.loop-i.at text, c.loop-i.invariant.place) in
     omega (arith, ends-in)
 
 pub keep-requires : goal.keep-requires
@@ -59,10 +46,10 @@ pub loop-i-preserved : goal.loop-i-preserved
 unfolding Ends
 loop-i-preserved c =
     let text = c.args.text.now in
-    let measured : Measured (slot_at c.args.slots.now (get_or c.args.header.now c.loop-i.i 0)) (drop c.loop-i.at text) (Some c.in-Is.n) =
-    rw (c.in-Is.is, rest_of c.loop-i.at (length text) text refl) at c.plain.ensures
+    let measured : Measured (slot_at c.args.slots.now (get_or c.args.header.now c.loop-i.i 0)) (drop c.loop-i.at text) (Some c.in_ok-n.n) =
+    rw (rest_of c.loop-i.at (length text) text refl) at c.in_ok-n.ensures
     in
-    let ended : Ended text (c.loop-i.at + c.in-Is.n) c.in-Is-behind.next = rw c.in-Is-behind.is at c.behind.ensures in
+    let ended : Ended text (c.loop-i.at + c.in_ok-n.n) c.in_ok-next.next = c.in_ok-next.ensures in
     let some = ne_eqb _ _ c.if-slot-eq0.false in
     head-again _ _ _ _ _ _ _ _ _ c.loop-i.invariant _ _ measured ended c.loop-i-test.true _ _ (rw some at c.keep.ensures.0) (rw some at c.keep.ensures.1)
 
