@@ -98,9 +98,9 @@ fn see(text: &[u8], rows: &[u8], slots: &[u8], here: Place, seen: &[u8]) -> Take
     ensures { Sees (rows_of rows.now) (slot_at slots.now) here seen.now text.now result }
 {
     match fitting::row_for(rows, here, seen, text) {
-        Fit::Edge(step, width) => told(text, step, 0, width),
-        Fit::Field(step, width) => told_field(text, slots, step, width),
-        Fit::Not => nothing(),
+        Some(Fit::Edge(step, width)) => told(text, step, 0, width),
+        Some(Fit::Field(step, width)) => told_field(text, slots, step, width),
+        None => nothing(),
     }
 }
 
