@@ -9,7 +9,6 @@ ghost use Rattle.glance.specs.Glance.{Says};
 ghost use Rattle.answer_table.specs.Table.{header, slot_of};
 ghost use Rattle.answer_table.specs.Tree.{tree};
 
-use measure::Width;
 use walk::Body;
 
 // Sixteen bytes a row: its kind, its slot, the length of its text, the text.
@@ -169,7 +168,7 @@ pub fn glance(
     text: &[u8],
     starts: &mut [usize; stretches::SLOTS],
     ends: &mut [usize; stretches::SLOTS],
-) -> Width
+) -> Option<usize>
     ensures { Says (table_of tree) slot_of header text.now starts.old ends.old starts.new ends.new result }
 {
     glance::glance(text, &HEADER, &TABLE, &SLOTS, starts, ends)
