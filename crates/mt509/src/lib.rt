@@ -16,7 +16,6 @@ ghost use Rattle.mt509.specs.Reading.{judged, read_of, front_of};
 
 use answer::Answer;
 use lines::Verdict;
-use measure::Width;
 use walk::Body;
 
 // What the desk gets back of a message: 0 and the record, or a number and a line with the blank record beside them.
@@ -74,7 +73,7 @@ fn take(
     ensures { record { verdict = result; starts = starts.new; ends = ends.new } ≡ take_of (table_of tree) slot_of header message.now }
 {
     let width = answer_table::glance(message, starts, ends);
-    if let Width::Is(n) = width {
+    if let Some(n) = width {
         if n == message.len() {
             return Verdict::PASS;
         }
@@ -120,7 +119,7 @@ pub fn read_front(text: &[u8]) -> Front
     let mut starts = [0usize; stretches::SLOTS];
     let mut ends = [0usize; stretches::SLOTS];
     let width = answer_table::glance(text, &mut starts, &mut ends);
-    if let Width::Is(n) = width {
+    if let Some(n) = width {
         return Front {
             reading: judge(&text[..n], &starts, &ends),
             length: n,

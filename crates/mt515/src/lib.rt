@@ -13,7 +13,6 @@ ghost use Rattle.table.specs.Tree.{tree};
 ghost use Rattle.mt515.specs.Reading.{judged, read_of, front_of, kept_of};
 
 use lines::Verdict;
-use measure::Width;
 use trade::Trade;
 use walk::Body;
 
@@ -72,7 +71,7 @@ fn take(
     ensures { record { verdict = result; starts = starts.new; ends = ends.new } ≡ take_of (table_of tree) slot_of header message.now }
 {
     let width = table::glance(message, starts, ends);
-    if let Width::Is(n) = width {
+    if let Some(n) = width {
         if n == message.len() {
             return Verdict::PASS;
         }
@@ -118,7 +117,7 @@ pub fn read_front(text: &[u8]) -> Front
     let mut starts = [0usize; stretches::SLOTS];
     let mut ends = [0usize; stretches::SLOTS];
     let width = table::glance(text, &mut starts, &mut ends);
-    if let Width::Is(n) = width {
+    if let Some(n) = width {
         return Front {
             reading: judge(&text[..n], &starts, &ends),
             length: n,

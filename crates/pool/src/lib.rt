@@ -15,7 +15,6 @@ ghost use Rattle.pool_values.specs.Pool.{pool};
 ghost use Rattle.pool.specs.Reading.{judged, read_of, front_of};
 
 use lines::Verdict;
-use measure::Width;
 use pool_trade::PoolTrade;
 use walk::Body;
 
@@ -74,7 +73,7 @@ fn take(
     ensures { record { verdict = result; starts = starts.new; ends = ends.new } ≡ take_of (table_of tree) slot_of header message.now }
 {
     let width = pool_table::glance(message, starts, ends);
-    if let Width::Is(n) = width {
+    if let Some(n) = width {
         if n == message.len() {
             return Verdict::PASS;
         }
@@ -120,7 +119,7 @@ pub fn read_front(text: &[u8]) -> Front
     let mut starts = [0usize; stretches::SLOTS];
     let mut ends = [0usize; stretches::SLOTS];
     let width = pool_table::glance(text, &mut starts, &mut ends);
-    if let Width::Is(n) = width {
+    if let Some(n) = width {
         return Front {
             reading: judge(&text[..n], &starts, &ends),
             length: n,

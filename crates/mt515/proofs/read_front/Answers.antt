@@ -8,11 +8,11 @@ use Rattle.mt515.proofs.Chain.{readable, fronted}
 use Rattle.mt515.proofs.read_front.Goals as goal
 
 pub slice_bounds-judge-end : goal.slice_bounds-judge-end
-slice_bounds-judge-end c = sym (length-take-le _ _ (glanced-within mt515 readable _ _ _ _ _ c.in-Is.is c.glance-width.ensures))
+slice_bounds-judge-end c = sym (length-take-le _ _ (glanced-within mt515 readable _ _ _ _ _ c.in-Some.is c.glance-width.ensures))
 
-pub returns-in-Is : goal.returns-in-Is
+pub returns-in-Some : goal.returns-in-Some
 unfolding judged
-returns-in-Is c = fronted _ (glanced-front mt515 readable _ _ _ _ _ c.in-Is.is c.glance-width.ensures) c.judge.ensures
+returns-in-Some c = fronted _ (glanced-front mt515 readable _ _ _ _ _ c.in-Some.is c.glance-width.ensures) c.judge.ensures
 
 pub slice_bounds-piece-end : goal.slice_bounds-piece-end
 slice_bounds-piece-end c = sym (length-take-le _ _ (front-within _ _ c.piece_end-end.ensures))

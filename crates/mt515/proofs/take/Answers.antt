@@ -9,4 +9,4 @@ pub returns-then-n-message : goal.returns-then-n-message
 unfolding pass refused
 returns-then-n-message c =
     let none = c.requires in
-    glanced-body mt515 readable _ _ _ _ _ c.in-Is.is (rw (none.0, none.1) at c.glance-width.ensures) c.if-n-message.true
+    glanced-body mt515 readable _ _ _ _ _ c.in-Some.is (rw (none.0, none.1) at c.glance-width.ensures) c.if-n-message.true
