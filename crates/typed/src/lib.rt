@@ -27,13 +27,6 @@ pub enum Side {
     Sell,
 }
 
-// A sum of money that need not be there; a sum of zero is there.
-#[derive(Clone, Copy)]
-pub enum Payment {
-    Absent,
-    Of(Money),
-}
-
 // A text.
 pub fn text_at<'a, 'b>(
     message: &'a [u8],
@@ -85,20 +78,20 @@ pub fn amount_at<'a, 'b>(
     Amount::read(stretches::stretch(message, starts, ends, slot)).unwrap_or(Amount::ZERO)
 }
 
-// A payment; absent where there is no value, and a sum of zero where the value is none.
+// A payment, a sum of money that need not be there; a sum of zero is there. Absent where there is no value, and a sum of zero where the value is none.
 pub fn payment_at<'a, 'b>(
     message: &'a [u8],
     starts: &'b [usize],
     ends: &'b [usize],
     slot: usize,
-) -> Payment
+) -> Option<Money>
     ensures { result ≡ payment_in (stretch_of message.now starts.now ends.now slot) }
 {
     let value = stretches::stretch(message, starts, ends, slot);
     if value.len() == 0 {
-        return Payment::Absent;
+        return None;
     }
-    Payment::Of(Money::of(amount_at(message, starts, ends, slot)))
+    Some(Money::of(amount_at(message, starts, ends, slot)))
 }
 
 // A moment of a record that need not be there is in form: absent is date 0 and time 0, and nothing else.
