@@ -1,5 +1,5 @@
 -- Document 01, "Plain form, and the record": a trade as it is held, from the values of its slots; and the blank record.
-use Rattle.std.specs.Prelude.{ℕ, List, [], ◌∷◌, get_or}
+use Rattle.std.specs.Prelude.{ℕ, List, [], ◌∷◌, get_or, None}
 use Rattle.text.specs.Bytes.{bytes}
 use Rattle.text.specs.Texts.{text_of, blank}
 use Rattle.amount.specs.Amounts.{amount_read, nought}
@@ -16,7 +16,6 @@ use Rattle.reason.specs.Reason.{reason_in}
 use Rattle.trade.specs.Narrative.{service_of, period_of}
 use Rattle.trade.specs.declared.Kind.{Kind}
 use Rattle.trade.specs.declared.Service.{Service}
-use Rattle.trade.specs.declared.Period.{Period}
 use Rattle.trade.specs.declared.Party.{Party}
 use Rattle.trade.specs.declared.Trade.{Trade}
 
@@ -98,6 +97,6 @@ blank_trade =
       cusip = blank;
       pool = blank;
       service = Service.Sbod;
-      period = Period.Absent;
+      period = None;
       reason = blank;
     }
