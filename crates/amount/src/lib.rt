@@ -29,28 +29,14 @@ pub fn number(read: Option<Amount>) -> u64
 fn lasting(part: &[u8]) -> usize
     ensures { result ≡ length (shortened part.now) }
 {
-    let mut n = part.len();
-    while 0 < n {
-        if part[n - 1] != b'0' {
-            return n;
-        }
-        n -= 1;
-    }
-    0
+    part.iter().rposition(|byte| *byte != b'0').map_or(0, |last| last + 1)
 }
 
 // How many noughts stand in front.
 pub fn leading(part: &[u8]) -> usize
     ensures { result ≡ noughts part.now }
 {
-    let mut i = 0;
-    while i < part.len() {
-        if part[i] != b'0' {
-            return i;
-        }
-        i += 1;
-    }
-    i
+    part.iter().position(|byte| *byte != b'0').unwrap_or(part.len())
 }
 
 // From where to where the shortest text of an amount stands in its text.

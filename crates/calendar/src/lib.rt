@@ -10,15 +10,15 @@ ghost use Rattle.calendar.specs.Dates.{leap, is_month, is_long, february, month_
 
 use text::Class;
 
-// A date as the number YYYYMMDD that its digits spell.
-#[derive(Clone, Copy)]
+// A date as the number YYYYMMDD that its digits spell, so that an earlier one is the lesser number.
+#[derive(Clone, Copy, PartialEq, Eq, PartialOrd, Ord)]
 pub struct Date(pub u64);
 
 // A time of day as the number HHMMSS that its digits spell.
-#[derive(Clone, Copy)]
+#[derive(Clone, Copy, PartialEq, Eq, PartialOrd, Ord)]
 pub struct Time(pub u64);
 
-#[derive(Clone, Copy)]
+#[derive(Clone, Copy, PartialEq, Eq, PartialOrd, Ord)]
 pub struct Moment {
     pub date: Date,
     pub time: Time,
@@ -50,7 +50,7 @@ pub fn is_leap(year: u64) -> bool
 fn is_month(month: usize) -> bool
     ensures { result ≡ is_month month }
 {
-    1 <= month && month <= 12
+    (1..=12).contains(&month)
 }
 
 // The days of February in a year.
@@ -107,18 +107,12 @@ fn is_day(year: u64, month: usize, day: u64) -> bool
     day <= month_length(year, month)
 }
 
-fn wide(byte: u8) -> u64
-    ensures { result ≡ byte }
-{
-    byte as u64
-}
-
 // The number of two digits at a place.
 fn pair(part: &[u8], at: usize) -> u64
     requires { (at + 2 ≤ length part.now) × (digits_alone part.now ≡ true) }
     ensures { (result ≡ two part.now at) × (result < 100) }
 {
-    wide(part[at]) * 10 + wide(part[at + 1]) - 528
+    u64::from(part[at]) * 10 + u64::from(part[at + 1]) - 528
 }
 
 // The date of the first eight digits of a part. Year, month and day are read apart, so that nothing is divided for them.
@@ -182,7 +176,7 @@ impl Date {
     pub fn before(self, other: Date) -> bool
         ensures { result ≡ earlier self other }
     {
-        self.0 < other.0
+        self < other
     }
 
     // Puts the eight digits of a date, as `text::put` puts a part; what is no date has no digits.
@@ -216,13 +210,7 @@ impl Moment {
     pub fn in_form(self) -> bool
         ensures { result ≡ is_moment self }
     {
-        let date = self.date;
-        let time = self.time;
-        if date.in_form() {
-            time.in_form()
-        } else {
-            false
-        }
+        self.date.in_form() && self.time.in_form()
     }
 
     // The fourteen digits of a part as a date and time. Eight bytes are looked at at once, and so two of them twice: that is
@@ -239,12 +227,8 @@ impl Moment {
         if !text::all_in(Class::Digit, &part[6..]) {
             return None;
         }
-        let Some(date) = date_in(part) else {
-            return None;
-        };
-        let Some(time) = time_in(part) else {
-            return None;
-        };
+        let date = date_in(part)?;
+        let time = time_in(part)?;
         Some(Moment {
             date,
             time: Time(time),
