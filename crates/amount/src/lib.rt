@@ -29,7 +29,12 @@ pub fn number(read: Option<Amount>) -> u64
 fn lasting(part: &[u8]) -> usize
     ensures { result ≡ length (shortened part.now) }
 {
-    part.iter().rposition(|byte| *byte != b'0').map_or(0, |last| last + 1)
+    let noughts = part
+        .iter()
+        .rev()
+        .position(|byte| *byte != b'0')
+        .unwrap_or(part.len());
+    part.len() - noughts
 }
 
 // How many noughts stand in front.
