@@ -47,6 +47,7 @@ pub fn is_leap(year: u64) -> bool
 }
 
 // A number that names a month.
+#[tactic(auto, unfolding(crate::specs::Dates::is_month))]
 fn is_month(month: usize) -> bool
     ensures { result ≡ is_month month }
 {
