@@ -85,9 +85,7 @@ fn from_parts(whole: u64, rest: &[u8]) -> Option<Amount>
     ensures { result ≡ parts_read whole rest.now }
 {
     let decimals = lasting(rest);
-    let Some(tail) = digits::read_digits(&rest[..decimals]) else {
-        return None;
-    };
+    let tail = digits::read_digits(&rest[..decimals])?;
     Some(Amount {
         number: whole * digits::ten_to(decimals) + tail,
         decimals,
