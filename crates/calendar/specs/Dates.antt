@@ -1,6 +1,6 @@
 -- Document 01, "Dates": YYYYMMDD, year 0001 to 9999, Gregorian leap years; times 000000 to 235959 with minutes and seconds
 -- to 59; a date and time is 14 digits.
-use Rattle.std.specs.Prelude.{ℕ, ◌+◌, ◌*◌, ◌/◌, ◌%◌, Bool, ◌&&◌, ◌||◌, not, cond, List, [], ◌∷◌, leb, ltb, eqb, take, drop, Option, Some, None}
+use Rattle.std.specs.Prelude.{ℕ, ◌+◌, ◌*◌, ◌/◌, ◌%◌, Bool, ◌&&◌, ◌||◌, not, cond, List, [], leb, ltb, eqb, take, drop, Option, Some, None}
 use Rattle.digits.specs.Numerals.{numeral, digits, wide_number}
 use Rattle.calendar.specs.declared.Date.{Date}
 use Rattle.calendar.specs.declared.Moment.{Moment}

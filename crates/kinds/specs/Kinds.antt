@@ -4,7 +4,7 @@
 --   15  a field that the kind may not have
 --   16  par zero
 --   17  settles before the trade date
-use Rattle.std.specs.Prelude.{ℕ, Bool, true, false, ◌||◌, not, List, ltb, eqb, Option, is_some}
+use Rattle.std.specs.Prelude.{ℕ, Bool, ◌||◌, not, List, ltb, eqb, Option, is_some}
 use Rattle.text.specs.Bytes.{bytes, same}
 use Rattle.text.specs.declared.Text.{Text}
 use Rattle.calendar.specs.Dates.{earlier}

@@ -3,9 +3,7 @@ use Rattle.std.specs.Prelude.{ℕ, List, [], ◌∷◌, get_or, None}
 use Rattle.text.specs.Bytes.{bytes}
 use Rattle.text.specs.Texts.{text_of, blank}
 use Rattle.amount.specs.Amounts.{amount_read, nought}
-use Rattle.amount.specs.declared.Amount.{Amount}
 use Rattle.calendar.specs.Dates.{date_read, moment_read}
-use Rattle.calendar.specs.declared.Date.{Date}
 use Rattle.calendar.specs.declared.Moment.{Moment}
 use Rattle.forms.specs.Forms.{word_at}
 use Rattle.typed.specs.Typed.{amount_or0, date_or0, moment_or0}

@@ -28,7 +28,7 @@ pub(crate) fn period_of(value: &[u8]) -> Option<u64>
     if digit <= b'0' {
         return Some(0);
     }
-    Some((digit - b'0') as u64)
+    Some(u64::from(digit - b'0'))
 }
 
 pub(crate) fn reason_of(value: &[u8]) -> Text

@@ -7,7 +7,6 @@ use mathlib.Core.List.{List, []}
 use native.Mathlib.Omega.{arith}
 use lib.ListN.{length}
 use Rattle.std.proofs.Common.{Option, Some, None}
-use Rattle.text.specs.Bytes.{bytes}
 use Rattle.digits.specs.Numerals.{digits}
 use Rattle.digits.proofs.Laws.{length_digits}
 use Rattle.amount.specs.Amounts.{in_form as amount_form, amount_text}
@@ -17,7 +16,6 @@ use Rattle.amount.proofs.Noughts.{text-none}
 use Rattle.calendar.specs.Dates.{is_date, is_moment, date_text, moment_text}
 use Rattle.calendar.specs.declared.Date.{Date}
 use Rattle.calendar.specs.declared.Moment.{Moment}
-use Rattle.typed.specs.declared.Side.{Side}
 use Rattle.typed.specs.Payments.{payment_text}
 use Rattle.amount.specs.declared.Money.{Money}
 

@@ -1,6 +1,5 @@
 use Rattle.digits.proofs.Laws.{digit-high}
 use Rattle.text.specs.Classes.{in_class}
-use Prim.Native.Nat.{◌-◌}
 use mathlib.Core.Path.{◌≡◌, sym, ◌∙◌}
 use lib.ListN.{length}
 use native.Mathlib.Omega.{arith}

@@ -1,5 +1,4 @@
-use mathlib.Core.Path.{◌≡◌, refl, ◌∙◌}
-use lib.ListN.{length-set}
+use mathlib.Core.Path.{◌≡◌, ◌∙◌}
 use native.Mathlib.Omega.{arith}
 use Rattle.digits.specs.Numerals.{digits}
 use Rattle.digits.proofs.Spelling.{put-none, put-more, put-done}

@@ -1,4 +1,3 @@
-use mathlib.Core.Path.{refl}
 use native.Mathlib.Omega.{arith}
 use Rattle.digits.proofs.Spelling.{ten-out, ten-more, ten-small, ten-in}
 use Rattle.digits.proofs.ten_to.Goals as goal

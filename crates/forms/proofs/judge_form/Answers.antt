@@ -5,11 +5,6 @@ use Rattle.calendar.specs.Dates.{date_number, moment_number}
 use Rattle.forms.specs.Forms.{unless, form_number}
 use Rattle.forms.specs.Slots.{form_of}
 use Rattle.forms.proofs.Parts.{words-number, past-nine, no-form}
-use Rattle.amount.proofs.Amount.read.Reads as Amount-read-reads
-use Rattle.amount.proofs.number.Reads as number-reads
-use Rattle.calendar.proofs.Date.read.Reads as Date-read-reads
-use Rattle.calendar.proofs.number.Reads as calendar-number-reads
-use Rattle.calendar.proofs.Moment.read.Reads as Moment-read-reads
 use Rattle.forms.proofs.judge_form.Goals as goal
 
 pub returns-in-0 : goal.returns-in-0

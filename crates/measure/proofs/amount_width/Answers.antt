@@ -2,7 +2,6 @@
 use Prim.Native.Nat.{◌+◌}
 use mathlib.Core.Path.{refl}
 use Rattle.text.proofs.Laws.{rest_of}
-use Rattle.measure.specs.Measure.{FormMeasured}
 use Rattle.measure.proofs.Laws.{amount-told}
 use Rattle.measure.proofs.amount_width.Goals as goal
 

@@ -1,10 +1,9 @@
 -- `measure::date_width` meets its contract. Assumes nothing.
-use mathlib.Core.Path.{sym, ap, ◌∙◌}
+use mathlib.Core.Path.{sym, ap}
 use native.Mathlib.Omega.{arith}
 use lib.ListN.{length-take}
 use Rattle.calendar.specs.Dates.{date_number}
 use Rattle.forms.specs.Forms.{form_number}
-use Rattle.measure.specs.Measure.{FormMeasured}
 use Rattle.measure.proofs.Laws.{date-told}
 use Rattle.measure.proofs.date_width.Goals as goal
 

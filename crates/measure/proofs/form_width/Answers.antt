@@ -1,6 +1,5 @@
 -- `measure::form_width` meets its contract: each arm is a form by its number. Assumes nothing.
 use Rattle.forms.specs.Slots.{form_of}
-use Rattle.measure.specs.Measure.{FormMeasured}
 use Rattle.measure.proofs.Laws.{nothing-told, code-told}
 use Rattle.measure.proofs.form_width.Goals as goal
 

@@ -2,7 +2,6 @@
 use mathlib.Core.Path.{sym, ◌∙◌}
 use native.Mathlib.Omega.{arith}
 use lib.ListN.{length-take}
-use Rattle.measure.specs.Measure.{FormMeasured}
 use Rattle.measure.proofs.Laws.{narrative-told}
 use Rattle.measure.proofs.narrative_width.Goals as goal
 

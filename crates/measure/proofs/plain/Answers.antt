@@ -2,7 +2,6 @@
 use mathlib.Core.Path.{refl}
 use native.Mathlib.Omega.{arith}
 use Rattle.text.proofs.Laws.{rest_of}
-use Rattle.measure.specs.Measure.{Measured}
 use Rattle.measure.proofs.Laws.{line-within, line-told, line-long, told-within, slot_is}
 use Rattle.measure.proofs.plain.Goals as goal
 

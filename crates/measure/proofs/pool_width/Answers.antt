@@ -3,7 +3,6 @@ use mathlib.Core.Path.{sym, ◌∙◌}
 use native.Mathlib.Omega.{arith}
 use lib.ListN.{length-take}
 use Rattle.forms.specs.Forms.{form_number}
-use Rattle.measure.specs.Measure.{FormMeasured}
 use Rattle.measure.proofs.Laws.{pool-told}
 use Rattle.measure.proofs.pool_width.Goals as goal
 

@@ -2,7 +2,6 @@
 use mathlib.Core.Path.{sym, ◌∙◌}
 use borrow.Author.Tests.{not-true, not-false}
 use Rattle.pool_trade.specs.Narrative.{delivery_of}
-use borrow.Author.Rules.{rules}
 use Rattle.pool_trade.proofs.narrative.delivery_of.Goals as goal
 
 pub returns-then-not-has_delivery : goal.returns-then-not-has_delivery
