@@ -32,7 +32,7 @@ fn lasting(part: &[u8]) -> usize
     let noughts = part
         .iter()
         .rev()
-        .position(|byte| *byte != b'0')
+        .position(|digit| *digit != b'0')
         .unwrap_or(part.len());
     part.len() - noughts
 }
@@ -41,7 +41,9 @@ fn lasting(part: &[u8]) -> usize
 pub fn leading(part: &[u8]) -> usize
     ensures { result ≡ noughts part.now }
 {
-    part.iter().position(|byte| *byte != b'0').unwrap_or(part.len())
+    part.iter()
+        .position(|byte| *byte != b'0')
+        .unwrap_or(part.len())
 }
 
 // From where to where the shortest text of an amount stands in its text.

@@ -49,9 +49,5 @@ pub(crate) fn service_from(byte: u8) -> Service
 pub(crate) fn period_from(byte: u8) -> Option<u64>
     ensures { result ≡ period_from byte }
 {
-    if byte == 255 {
-        None
-    } else {
-        Some(byte as u64)
-    }
+    if byte == 255 { None } else { Some(byte as u64) }
 }

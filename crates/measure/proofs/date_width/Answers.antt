@@ -13,4 +13,3 @@ slice_bounds-read-end c = rw length-take (omega arith)
 pub returns : goal.returns
 unfolding form_number
 returns c = date-told _ _ (omega arith) (sym (ap date_number c.in_ok-read.ensures))
-

@@ -42,4 +42,3 @@ returns-in-8 c = rw c.in-8.is c.characters_width-in-8.ensures
 pub returns-in-9 : goal.returns-in-9
 unfolding form_of
 returns-in-9 c = rw c.in-9.is c.characters_width-in-9.ensures
-

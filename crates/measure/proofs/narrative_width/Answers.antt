@@ -10,4 +10,3 @@ slice_bounds-is_narrative-end c = rw length-take (omega arith)
 
 pub returns-then-is_narrative : goal.returns-then-is_narrative
 returns-then-is_narrative c = narrative-told _ _ (omega arith) (sym c.is_narrative.ensures ∙ c.if-is_narrative.true)
-

@@ -10,4 +10,3 @@ returns-in-0 c = rw c.in-0.is (nothing-told _)
 pub returns-in-1 : goal.returns-in-1
 unfolding form_of
 returns-in-1 c = rw c.in-1.is (code-told _ _ _ _ c.characters_width.ensures)
-

@@ -12,4 +12,3 @@ slice_bounds-number-end c = rw length-take (omega arith)
 pub returns-then-number-eq0 : goal.returns-then-number-eq0
 unfolding form_number
 returns-then-number-eq0 c = pool-told _ _ (omega arith) (sym c.number.ensures ∙ c.if-number-eq0.true)
-
