@@ -34,16 +34,11 @@ pub fn number<T: Copy>(read: Option<T>) -> u64
     }
 }
 
+#[tactic(auto, unfolding(crate::specs::Dates::leap))]
 pub fn is_leap(year: u64) -> bool
     ensures { result ≡ leap year }
 {
-    if year % 4 != 0 {
-        return false;
-    }
-    if year % 100 != 0 {
-        return true;
-    }
-    year % 400 == 0
+    year % 4 == 0 && (year % 100 != 0 || year % 400 == 0)
 }
 
 // A number that names a month.
@@ -55,6 +50,7 @@ fn is_month(month: usize) -> bool
 }
 
 // The days of February in a year.
+#[tactic(auto, unfolding(crate::specs::Dates::february))]
 fn february(year: u64) -> u64
     ensures { result ≡ february year }
 {
@@ -62,6 +58,7 @@ fn february(year: u64) -> u64
 }
 
 // Up to July the odd months are long, from August on the even ones.
+#[tactic(auto, unfolding(crate::specs::Dates::is_long))]
 fn is_long(month: usize) -> bool
     ensures { result ≡ is_long month }
 {
@@ -74,6 +71,7 @@ fn is_long(month: usize) -> bool
 
 // The days of a month: none of a number that names no month, those of February by the year, and of any other month by whether it is
 // long.
+#[tactic(auto, unfolding(crate::specs::Dates::month_length))]
 pub fn month_length(year: u64, month: usize) -> u64
     ensures { result ≡ month_length year month }
 {
@@ -87,25 +85,11 @@ pub fn month_length(year: u64, month: usize) -> u64
 }
 
 // A year, a month and a day name a day of the calendar.
+#[tactic(auto, unfolding(crate::specs::Dates::is_month))]
 fn is_day(year: u64, month: usize, day: u64) -> bool
     ensures { result ≡ is_day year month day }
 {
-    if year < 1 {
-        return false;
-    }
-    if 9999 < year {
-        return false;
-    }
-    if month < 1 {
-        return false;
-    }
-    if 12 < month {
-        return false;
-    }
-    if day < 1 {
-        return false;
-    }
-    day <= month_length(year, month)
+    (1..=9999).contains(&year) && is_month(month) && 1 <= day && day <= month_length(year, month)
 }
 
 // The number of two digits at a place.
@@ -153,6 +137,7 @@ fn time_in(part: &[u8]) -> Option<u64>
 
 impl Date {
     // The number is a day of the calendar.
+    #[tactic(auto, unfolding(crate::specs::Dates::is_date, crate::specs::Dates::year, crate::specs::Dates::month, crate::specs::Dates::day))]
     pub fn in_form(self) -> bool
         ensures { result ≡ is_date self.0 }
     {
@@ -181,6 +166,7 @@ impl Date {
     }
 
     // Puts the eight digits of a date, as `text::put` puts a part; what is no date has no digits.
+    #[tactic(auto, unfolding(crate::specs::Dates::date_text))]
     pub fn put(self, buf: &mut [u8], at: usize) -> usize
         ensures { (result ≡ after buf.old at (date_text self)) × (buf.new ≡ placed buf.old at (date_text self)) }
     {
@@ -194,20 +180,16 @@ impl Date {
 
 impl Time {
     // The number is a time of day.
+    #[tactic(auto, unfolding(crate::specs::Dates::is_time))]
     pub fn in_form(self) -> bool
         ensures { result ≡ is_time self.0 }
     {
-        if 23 < self.0 / 10000 {
-            return false;
-        }
-        if 59 < self.0 / 100 % 100 {
-            return false;
-        }
-        self.0 % 100 <= 59
+        self.0 / 10000 <= 23 && self.0 / 100 % 100 <= 59 && self.0 % 100 <= 59
     }
 }
 
 impl Moment {
+    #[tactic(auto, unfolding(crate::specs::Dates::is_moment))]
     pub fn in_form(self) -> bool
         ensures { result ≡ is_moment self }
     {
@@ -237,6 +219,7 @@ impl Moment {
     }
 
     // Puts the fourteen digits of a date and time, as `text::put` puts a part; what is none has no digits.
+    #[tactic(auto, unfolding(crate::specs::Dates::moment_text))]
     pub fn put(self, buf: &mut [u8], at: usize) -> usize
         ensures { (result ≡ after buf.old at (moment_text self)) × (buf.new ≡ placed buf.old at (moment_text self)) }
     {
