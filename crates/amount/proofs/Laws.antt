@@ -4,7 +4,7 @@ use Prim.Native.Nat.{ℕ, suc, ◌+◌, ◌-◌, ◌/◌, ◌%◌, ◌^◌, ◌�
 use mathlib.Core.Path.{◌≡◌, refl, sym, ap, ◌∙◌}
 use mathlib.Core.Bool.{Bool, true, false, ◌&&◌, ◌||◌, not, or-true}
 use mathlib.Core.List.{List, [], ◌∷◌, ◌++◌, append_assoc}
-use mathlib.Core.Logic.{◌⊎◌, ⊎_elim, ◌↔◌}
+use mathlib.Core.Logic.{⊎_elim, ◌↔◌}
 use native.Mathlib.Nat.{pow-le-pow_right, lt_of_lt_of_le, zero-add}
 use native.Mathlib.Omega.{arith}
 use lib.Arith.{digits_mod}
@@ -12,6 +12,7 @@ use lib.Dec.{leb, ltb, eqb, lit<}
 use lib.ListN.{length, take, drop, replicate, length-append, length-take, length-drop, length-replicate, take-append-drop}
 use lib.Seq.{take_at, drop_at, drop-append-le}
 use borrow.Author.Tests.{leb-true, ltb-true, eqb-true, le-leb, lt-ltb, ne_eqb, eqb-false, not-true}
+use Rattle.std.proofs.Common.{Some}
 use Rattle.text.specs.Classes.{all_in, in_class}
 use Rattle.text.specs.declared.Class.TheVariants.{Digit}
 use Rattle.text.proofs.Laws.{and_left, and_right, and_both, all_append}
@@ -19,7 +20,6 @@ use Rattle.digits.specs.Numerals.{numeral, numeral_from, digits}
 use Rattle.digits.proofs.Laws.{digit_low, digit-high, numeral-append, numeral-lt, numeral-digits, digits_more, length_digits, all_digits}
 use Rattle.amount.specs.Amounts.{whole, decimals, is_amount, trimmed, shortened, tidy, meaning_of, meaning, amount_read, in_form, spread, amount_text}
 use Rattle.amount.specs.declared.Amount.{Amount}
-use Rattle.amount.specs.declared.AmountRead.TheVariants.{Good}
 use Rattle.amount.proofs.Trims.{whole_of, decimals-of, split, trimmed-noughts, trimmed-length, trimmed-digits, trimmed-numeral, trimmed-some, Ends, ends_stay, shortened-ends, shortened-twice, shortened-length, shortened-digits}
 
 -- the last digit of a number is its rest by ten
@@ -237,7 +237,7 @@ module _ (a : Amount) (form : in_form a ≡ true) where
       ap meaning text-parts ∙ value_of (trimmed front) (shortened rest) (tidy-fit front rest spread-fit).wholes
       ∙ tidy-value front rest spread-fit ∙ spread-back
 
-  pub amount-round : amount_read (amount_text a) ≡ Good a
+  pub amount-round : amount_read (amount_text a) ≡ Some a
   unfolding amount_read
   amount-round = rw (written-amount, written-value)
 

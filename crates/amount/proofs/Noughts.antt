@@ -1,67 +1,87 @@
--- The mathematics of the crate's functions, over plain lists and numbers: the two scans for noughts, the meaning of a
+-- The mathematics of the crate's functions, over plain lists and numbers: the two looks for the first byte that is no nought, the meaning of a
 -- whole part and decimals, and the line that an amount is put from.
 -- Assumes nothing.
-use Prim.Native.Nat.{ℕ, suc, ◌+◌, ◌-◌, ◌*◌, ◌^◌, ◌≤◌, ◌<◌}
-use mathlib.Core.Path.{◌≡◌, sym, ap, ◌∙◌}
-use mathlib.Core.Bool.{true, false, and-false}
-use mathlib.Core.List.{List, [], ◌∷◌, ◌++◌, append-nil}
-use native.Mathlib.Nat.{add-zero, zero-add, lt_trans, lt_of_lt_of_le, pow-le-pow_right}
-use native.Mathlib.Numerals.{add-one}
+use Prim.Native.Nat.{ℕ, zero, suc, ◌+◌, ◌-◌, ◌*◌, ◌^◌, ◌≤◌, ◌<◌}
+use mathlib.Core.Path.{◌≡◌, refl, sym, ap, ◌∙◌}
+use mathlib.Core.Bool.{Bool, true, false, and-false, cond, not}
+use mathlib.Core.List.{List, [], ◌∷◌, ◌++◌, append-nil, reverse, reverse-cons, reverse-append}
+use mathlib.Core.Logic.{⊎_elim}
+use native.Mathlib.Nat.{zero-add, lt_trans, lt_of_lt_of_le, pow-le-pow_right}
 use native.Mathlib.Omega.{arith}
 use lib.Arith.{digits_lt}
-use lib.Dec.{leb, ltb, lit<}
+use lib.Dec.{leb, ltb, eqb, lit<}
 use lib.ListN.{length, take, drop, get_or, replicate, length-append, length-take, length-drop, length-replicate, drop_of_length-le}
-use lib.Seq.{drop-cons, take-suc, length-take-le, append_snoc, take_at, take-append-le, drop-append-le}
-use borrow.Author.Tests.{le-leb, lt-leb, lt-ltb, le-ltb, eq-eqb, ne_eqb}
+use lib.Seq.{drop-cons, length-take-le, append_snoc, take_at, take-append-le, drop-append-le}
+use borrow.Author.Tests.{le-leb, lt-leb, lt-ltb, le-ltb, ltb-false, ne_eqb}
+use Rattle.std.proofs.Common.{Some, None}
+use Rattle.std.specs.List.{position, position_or_len}
+use Rattle.std.specs.Option.{unwrap_or}
 use Rattle.text.specs.Bytes.{before}
 use Rattle.text.specs.Classes.{all_in, in_class}
 use Rattle.text.specs.Copy.{over, fits, placed}
 use Rattle.text.specs.declared.Class.TheVariants.{Digit}
 use Rattle.text.proofs.Laws.{all_append, drop-replicate, rest_of, placed-all}
 use Rattle.digits.specs.Numerals.{numeral, digits, digit_run, short_run, number_of, ten_to}
-use Rattle.digits.specs.declared.Number.TheVariants.{Is, Not}
 use Rattle.digits.proofs.Laws.{pow-add, number_is, number-not, numeral-lt, numeral-append, length_digits, run_length, run-digits, run-next}
 use Rattle.digits.proofs.Spelling.{Ran}
 use Rattle.amount.specs.Amounts.{whole, decimals, is_amount, trimmed, shortened, meaning_of, meaning, amount_read, parts_read, in_form, spread, amount_text, noughts}
 use Rattle.amount.specs.declared.Amount.{Amount}
-use Rattle.amount.specs.declared.AmountRead.TheVariants.{Good, Wrong}
 use Rattle.amount.proofs.Laws.{few-decimals, front, rest, rest-length, rest-stays, text-parts}
-use Rattle.amount.proofs.Trims.{trimmed-drop, noughts-length, shortened-snoc, shortened-front, shortened-length, shortened-all, whole_run}
+use Rattle.amount.proofs.Trims.{trimmed-drop, noughts-length, Ends, shortened-ends, tail-is as tail_of, shortened-front, shortened-length, shortened-all, whole_run}
+
+-- ---- the first byte that is no nought
+
+-- a byte that is no nought
+abbrev pub other : ℕ → Bool
+other b = not (eqb b 48)
+
+other-noughts : (s : List ℕ) → position_or_len other s ≡ noughts s
+unfolding noughts
+other-noughts [] = refl
+other-noughts (b ∷ s) = go (other-noughts s) (eqb b 48)
+  where
+    go : position_or_len other s ≡ noughts s → (t : Bool) → cond (not (not t)) (1 + position_or_len other s) 0 ≡ cond t (suc (noughts s)) 0
+    go ih true = omega arith
+    go ih false = refl
+
+-- in front of it are the noughts, and where there is none all are
+pub first-other : (s : List ℕ) (n : ℕ) → n ≡ length s → unwrap_or (position other s) n ≡ noughts s
+first-other s n long = rw (long, other-noughts s) (go (ltb (noughts s) (length s)) refl)
+  where
+    go : (t : Bool) → ltb (noughts s) (length s) ≡ t → unwrap_or (cond t (Some (noughts s)) None) (length s) ≡ noughts s
+    go true e = refl
+    go false e = let h = noughts-length s in let g = ltb-false _ _ e in omega arith
 
 -- ---- the noughts at the end of decimals
 
-module _ (s : List ℕ) (n : ℕ) (within : n ≤ length s) (inv : shortened (take n s) ≡ shortened s) where
-  last-is : 0 < n → take n s ≡ take (n - 1) s ++ get_or s (n - 1) 0 ∷ []
-  last-is h =
-      let e : n ≡ suc (n - 1) = omega arith in
-      ap (λ (k : ℕ). take k s) e ∙ take-suc s (n - 1) 0 (omega arith)
+noughts-more : (k : ℕ) (s : List ℕ) → noughts (replicate {A = ℕ} k 48 ++ s) ≡ k + noughts s
+unfolding noughts
+noughts-more zero s = omega arith
+noughts-more (suc k) s = let h = noughts-more k s in omega arith
 
-  pub lasts : 0 < n → (get_or s (n - 1) 0 ≡ 48 → ⊥) → n ≡ length (shortened s)
-  lasts h g =
-      let e : shortened s ≡ take n s = sym inv ∙ ap shortened (last-is h) ∙ shortened-snoc (take (n - 1) s) (get_or s (n - 1) 0) ∙ rw (ne_eqb (get_or s (n - 1) 0) 48 g) (sym (last-is h)) in
-      sym (ap length e ∙ length-take-le n s within)
+reverse-noughts : (k : ℕ) → reverse (replicate {A = ℕ} k 48) ≡ replicate {A = ℕ} k 48
+reverse-noughts zero = refl
+reverse-noughts (suc k) = rw (reverse-cons, reverse-noughts k) (onto k)
+  where
+    onto : (k : ℕ) → replicate {A = ℕ} k 48 ++ 48 ∷ [] ≡ 48 ∷ replicate {A = ℕ} k 48
+    onto zero = refl
+    onto (suc k) = ap (λ (l : List ℕ). 48 ∷ l) (onto k)
 
-  pub goes : 0 < n → get_or s (n - 1) 0 ≡ 48 → shortened (take (n - 1) s) ≡ shortened s
-  goes h g = sym (sym inv ∙ ap shortened (last-is h) ∙ shortened-snoc (take (n - 1) s) (get_or s (n - 1) 0) ∙ rw (eq-eqb (get_or s (n - 1) 0) 48 g))
-
-pub none_left : (s : List ℕ) → shortened [] ≡ shortened s → 0 ≡ length (shortened s)
-unfolding shortened
-none_left s e = ap length e
-
--- ---- the noughts in front
-
-module _ (s : List ℕ) (i : ℕ) (inv : noughts s ≡ i + noughts (drop i s)) where
-  pub leads : i < length s → (get_or s i 0 ≡ 48 → ⊥) → i ≡ noughts s
-  unfolding noughts
-  leads h e = sym (inv ∙ rw (drop-cons s i 0 h, ne_eqb _ _ e) (add-zero i))
-
-  pub leads-more : i < length s → get_or s i 0 ≡ 48 → noughts s ≡ i + 1 + noughts (drop (i + 1) s)
-  unfolding noughts
-  leads-more h e = inv ∙ rw (drop-cons s i 0 h, eq-eqb _ _ e, add-one) (omega arith)
-
-  pub leads-all : length s ≤ i → i ≡ noughts s
-  unfolding noughts
-  leads-all h = sym (inv ∙ rw (drop_of_length-le s h) (add-zero i))
+-- what they leave is what is left of the decimals
+pub last-other : (s : List ℕ) → length (shortened s) + noughts (reverse s) ≡ length s
+unfolding noughts
+last-other s =
+    let w = tail_of s in
+    let n : noughts (reverse s) ≡ w.count + noughts (reverse (shortened s)) =
+    ap (λ (l : List ℕ). noughts (reverse l)) w.is ∙ rw (reverse-append, reverse-noughts w.count) (noughts-more w.count _)
+    in
+    let l : length s ≡ length (shortened s) + w.count = ap length w.is ∙ rw (length-append, length-replicate)
+    in
+    let z : noughts (reverse (shortened s)) ≡ 0 = ⊎_elim (λ (e : shortened s ≡ []). rw e) none (shortened-ends s) in
+    omega arith
+  where
+    none : Ends (shortened s) → noughts (reverse (shortened s)) ≡ 0
+    none x = rw (x.is, reverse-append, ne_eqb x.last 48 x.some)
 
 -- ---- the meaning of a whole part's number and decimals
 
@@ -73,14 +93,14 @@ module _ (n : ℕ) (f : List ℕ) (k : ℕ) (kept : k ≡ length (shortened f)) 
   within = let l = shortened-length f in omega arith
 
   module _ (few : length f ≤ 13) (low : n < 10 ^ (14 - length f)) where
-    pub rest-wrong : number_of (take k f) ≡ Not → Wrong ≡ parts_read n f
+    pub rest-wrong : number_of (take k f) ≡ None → None ≡ parts_read n f
     unfolding parts_read
     rest-wrong e =
         let l = shortened-length f in
         let d : all_in Digit f ≡ false = shortened-all f ∙ number-not (shortened f) (omega arith) (sym (ap number_of front-is) ∙ e) in
         rw d
 
-    module _ (m t : ℕ) (tail : number_of (take k f) ≡ Is m) (power : t ≡ ten_to k) where
+    module _ (m t : ℕ) (tail : number_of (take k f) ≡ Some m) (power : t ≡ ten_to k) where
       power-is : t ≡ 10 ^ length (shortened f)
       unfolding ten_to
       power-is = let l = shortened-length f in power ∙ rw (kept, lt-ltb (length (shortened f)) 15 (omega arith))
@@ -97,18 +117,18 @@ module _ (n : ℕ) (f : List ℕ) (k : ℕ) (kept : k ≡ length (shortened f)) 
           let b : 10 ^ (14 - length f) * 10 ^ e ≤ 10 ^ 14 = rw (pow-add (14 - length f) e) at (pow-le-pow_right {n = 10} (lit< tt) j) in
           rw (power-is, ← tail-is.1) (lt_trans (lt_of_lt_of_le a b) (lit< tt))
 
-      pub parts-good : Good (record { number = n * t + m; decimals = k }) ≡ parts_read n f
+      pub parts-good : Some (record { number = n * t + m; decimals = k }) ≡ parts_read n f
       unfolding parts_read
       parts-good = rw (shortened-all f, tail-is.0, power-is, ← tail-is.1, kept)
 
 -- ---- a text and its comma
 
 module _ (s : List ℕ) where
-  pub too_long : 15 < length s → Wrong ≡ amount_read s
+  pub too_long : 15 < length s → None ≡ amount_read s
   unfolding amount_read is_amount
   too_long h = rw (lt-leb (length s) 15 h)
 
-  wrong-whole : all_in Digit (whole s) ≡ false → Wrong ≡ amount_read s
+  wrong-whole : all_in Digit (whole s) ≡ false → None ≡ amount_read s
   unfolding amount_read is_amount
   wrong-whole e = rw (e, and-false (leb 1 (length (whole s))), and-false (ltb (length (whole s)) (length s)), and-false (leb (length s) 15))
 
@@ -124,7 +144,7 @@ module _ (s : List ℕ) where
     whole_from : whole s ≡ digit_run s ++ whole (drop k s)
     whole_from = rw counted (whole_run s)
 
-    pub no-comma : k ≡ length s → Wrong ≡ amount_read s
+    pub no-comma : k ≡ length s → None ≡ amount_read s
     unfolding amount_read is_amount whole before
     no-comma h =
         let l : length s ≤ k = omega arith in
@@ -140,7 +160,7 @@ module _ (s : List ℕ) where
       next-is = drop-cons s k 0 inside
 
       -- what stands behind the digits is neither a digit nor the comma
-      pub no_digit : (get_or s k 0 ≡ 44 → ⊥) → Wrong ≡ amount_read s
+      pub no_digit : (get_or s k 0 ≡ 44 → ⊥) → None ≡ amount_read s
       unfolding whole before all_in
       no_digit h =
           let d : in_class Digit (get_or s k 0) ≡ false = rw counted (run-next s (rw counted at inside)) in
@@ -155,7 +175,7 @@ module _ (s : List ℕ) where
         whole-count : length (whole s) ≡ k
         whole-count = ap length whole_is ∙ sym counted
 
-        pub no_whole : k ≡ 0 → Wrong ≡ amount_read s
+        pub no_whole : k ≡ 0 → None ≡ amount_read s
         unfolding amount_read is_amount
         no_whole h = rw (le-leb (length s) 15 short, whole-count, h, and-false (ltb 0 (length s)))
 

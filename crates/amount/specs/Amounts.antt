@@ -1,13 +1,11 @@
 -- Document 01, "Amounts": 1 to 15 characters, digits and exactly one comma, with at least one digit before the comma. The
 -- meaning is a whole number of the digits and a count of decimals, with nothing lost.
-use Rattle.std.specs.Prelude.{ℕ, suc, ◌+◌, ◌-◌, ◌*◌, ◌%◌, ◌^◌, Bool, ◌&&◌, ◌||◌, not, cond, List, [], ◌∷◌, ◌++◌, leb, ltb, eqb, length, take, drop}
+use Rattle.std.specs.Prelude.{ℕ, suc, ◌+◌, ◌-◌, ◌*◌, ◌%◌, ◌^◌, Bool, ◌&&◌, ◌||◌, not, cond, List, [], ◌∷◌, ◌++◌, leb, ltb, eqb, length, take, drop, Option, Some, None}
 use Rattle.text.specs.Bytes.{before}
 use Rattle.text.specs.Classes.{all_in}
 use Rattle.text.specs.declared.Class.TheVariants.{Digit}
 use Rattle.digits.specs.Numerals.{numeral, digits}
 use Rattle.amount.specs.declared.Amount.{Amount}
-use Rattle.amount.specs.declared.AmountRead.{AmountRead}
-use Rattle.amount.specs.declared.AmountRead.TheVariants.{Good, Wrong}
 use Rattle.amount.specs.declared.Trim.{Trim}
 
 -- ---- the text of an amount
@@ -55,13 +53,13 @@ meaning_of w f = record { number = numeral (w ++ shortened f); decimals = length
 unfoldable pub meaning : List ℕ → Amount
 meaning s = meaning_of (whole s) (decimals s)
 
-unfoldable pub amount_read : List ℕ → AmountRead
-amount_read s = cond (is_amount s) (Good (meaning s)) Wrong
+unfoldable pub amount_read : List ℕ → Option Amount
+amount_read s = cond (is_amount s) (Some (meaning s)) None
 
 -- the number that the desk gets: 11 for whatever is wrong
-abbrev pub amount_number : AmountRead → ℕ
-amount_number (Good a) = 0
-amount_number Wrong = 11
+abbrev pub amount_number : Option Amount → ℕ
+amount_number (Some a) = 0
+amount_number None = 11
 
 -- ---- an amount of a record
 
@@ -100,6 +98,6 @@ shortest_of s =
 -- ---- a step of the code
 
 -- the number of a whole part, and decimals that are digits
-unfoldable pub parts_read : ℕ → List ℕ → AmountRead
+unfoldable pub parts_read : ℕ → List ℕ → Option Amount
 parts_read n f =
-    cond (all_in Digit f) (Good (record { number = n * 10 ^ length (shortened f) + numeral (shortened f); decimals = length (shortened f) })) Wrong
+    cond (all_in Digit f) (Some (record { number = n * 10 ^ length (shortened f) + numeral (shortened f); decimals = length (shortened f) })) None

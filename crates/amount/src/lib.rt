@@ -8,8 +8,6 @@ ghost use Rattle.std.specs.Prelude.{◌≡◌, ◌-◌, ◌^◌, ◌≤◌, ◌<
 ghost use Rattle.text.specs.Copy.{placed, after};
 ghost use Rattle.amount.specs.Amounts.{shortened, noughts, parts_read, amount_read, amount_number, in_form, spread, amount_text, nought, most, shortest_of};
 
-use digits::Number;
-
 // The digits of an amount as one whole number, and how many of them are decimals.
 #[derive(Clone, Copy)]
 pub struct Amount {
@@ -17,21 +15,13 @@ pub struct Amount {
     pub decimals: usize,
 }
 
-#[derive(Clone, Copy)]
-pub enum AmountRead {
-    Good(Amount),
-    Wrong,
-}
-
-impl AmountRead {
-    // The number that the desk gets.
-    pub fn number(self) -> u64
-        ensures { result ≡ amount_number self }
-    {
-        match self {
-            AmountRead::Good(_) => 0,
-            AmountRead::Wrong => 11,
-        }
+// The number that the desk gets for what a part was read as.
+pub fn number(read: Option<Amount>) -> u64
+    ensures { result ≡ amount_number read }
+{
+    match read {
+        Some(_) => 0,
+        None => 11,
     }
 }
 
@@ -39,28 +29,21 @@ impl AmountRead {
 fn lasting(part: &[u8]) -> usize
     ensures { result ≡ length (shortened part.now) }
 {
-    let mut n = part.len();
-    while 0 < n {
-        if part[n - 1] != b'0' {
-            return n;
-        }
-        n -= 1;
-    }
-    0
+    let noughts = part
+        .iter()
+        .rev()
+        .position(|digit| *digit != b'0')
+        .unwrap_or(part.len());
+    part.len() - noughts
 }
 
 // How many noughts stand in front.
 pub fn leading(part: &[u8]) -> usize
     ensures { result ≡ noughts part.now }
 {
-    let mut i = 0;
-    while i < part.len() {
-        if part[i] != b'0' {
-            return i;
-        }
-        i += 1;
-    }
-    i
+    part.iter()
+        .position(|byte| *byte != b'0')
+        .unwrap_or(part.len())
 }
 
 // From where to where the shortest text of an amount stands in its text.
@@ -99,15 +82,13 @@ pub fn shortest(part: &[u8]) -> Trim
 
 // The amount that the number of a whole part and decimals mean, where these are digits. The noughts at their end are digits, so
 // that only what is left of them has to be looked at.
-fn from_parts(whole: u64, rest: &[u8]) -> AmountRead
+fn from_parts(whole: u64, rest: &[u8]) -> Option<Amount>
     requires { (length rest.now ≤ 13) × (whole < 10 ^ (14 - length rest.now)) }
     ensures { result ≡ parts_read whole rest.now }
 {
     let decimals = lasting(rest);
-    let Number::Is(tail) = digits::read_digits(&rest[..decimals]) else {
-        return AmountRead::Wrong;
-    };
-    AmountRead::Good(Amount {
+    let tail = digits::read_digits(&rest[..decimals])?;
+    Some(Amount {
         number: whole * digits::ten_to(decimals) + tail,
         decimals,
     })
@@ -138,22 +119,22 @@ impl Amount {
     }
 
     // A part of a message as an amount.
-    pub fn read(part: &[u8]) -> AmountRead
+    pub fn read(part: &[u8]) -> Option<Amount>
         ensures { result ≡ amount_read part.now }
     {
         if 15 < part.len() {
-            return AmountRead::Wrong;
+            return None;
         }
         let run = digits::front(part);
         let cut = run.len;
         if cut == part.len() {
-            return AmountRead::Wrong;
+            return None;
         }
         if part[cut] != b',' {
-            return AmountRead::Wrong;
+            return None;
         }
         if cut == 0 {
-            return AmountRead::Wrong;
+            return None;
         }
         from_parts(run.number, &part[cut + 1..])
     }

@@ -10,18 +10,15 @@ use lib.Arith.{digits_lt}
 use lib.Dec.{leb, ltb, eqb, lit<}
 use lib.ListN.{length}
 use borrow.Author.Tests.{leb-true, lt-ltb, le-ltb, ltb-true, ltb-false, eqb-true, eqb-false}
+use Rattle.std.proofs.Common.{Option, Some, None}
 use Rattle.text.specs.Classes.{all_in}
 use Rattle.text.specs.declared.Class.TheVariants.{Digit}
 use Rattle.text.proofs.Laws.{and_left, and_right}
 use Rattle.digits.specs.Numerals.{digits, wide_number}
-use Rattle.digits.specs.declared.Number.{Number}
-use Rattle.digits.specs.declared.Number.TheVariants.{Is, Not}
 use Rattle.digits.proofs.Laws.{length_digits, all_digits, fixed-digits, fixed_back}
 use Rattle.calendar.specs.Dates.{year, month, day, is_date, is_time, is_moment, earlier, date_from, date_read, moment_of, moment_from, moment_read, date_text, moment_text}
 use Rattle.calendar.specs.declared.Date.{Date}
 use Rattle.calendar.specs.declared.Moment.{Moment}
-use Rattle.calendar.specs.declared.DateRead.{DateRead}
-use Rattle.calendar.specs.declared.MomentRead.{MomentRead}
 
 -- ---- order
 
@@ -106,12 +103,12 @@ record Form (T R : Type 0) (ok : T → Bool) (text : T → List ℕ) (read : Lis
   number : T → ℕ
   of : ℕ → T
   wrong : R
-  from : Number → R
+  from : Option ℕ → R
   short : width ≤ 18
   text-is : (t : T) → text t ≡ cond (ok t) (digits width (number t)) []
   read_is : (s : List ℕ) → read s ≡ from (wide_number width s)
-  from_is : (n : ℕ) → from (Is n) ≡ cond (ok (of n)) (good (of n)) wrong
-  from-not : from Not ≡ wrong
+  from_is : (n : ℕ) → from (Some n) ≡ cond (ok (of n)) (good (of n)) wrong
+  from-not : from None ≡ wrong
   small : (t : T) → ok t ≡ true → number t < 10 ^ width
   of_number : (t : T) → ok t ≡ true → of (number t) ≡ t
   number_of : (n : ℕ) → number (of n) ≡ n
@@ -135,11 +132,11 @@ module _ {T R : Type 0} {ok : T → Bool} {text : T → List ℕ} {read : List �
           (rw u at o, rw (← u) (f.number_of n))
       good_of n false o g = absurd (f.good-not t g)
 
-      go : (v : Number) → wide_number f.width s ≡ v → f.from v ≡ good t → (ok t ≡ true) × (text t ≡ s)
-      go (Is n) h g =
+      go : (v : Option ℕ) → wide_number f.width s ≡ v → f.from v ≡ good t → (ok t ≡ true) × (text t ≡ s)
+      go (Some n) h g =
           let o = good_of n (ok (f.of n)) refl (sym (f.from_is n) ∙ g) in
           (o.0, in-digits t o.0 ∙ rw o.1 (fixed_back f.width s n f.short h))
-      go Not h g = absurd (f.good-not t (sym f.from-not ∙ g))
+      go None h g = absurd (f.good-not t (sym f.from-not ∙ g))
 
   same : (s s' : List ℕ) (t : T) → read s ≡ good t → read s' ≡ good t → s ≡ s'
   same s s' t e e' = sym (back s t e).1 ∙ (back s' t e').1
@@ -158,13 +155,13 @@ module _ {T R : Type 0} {ok : T → Bool} {text : T → List ℕ} {read : List �
 
 -- ---- dates
 
-dates : Form Date DateRead (λ d. is_date d.0) date_text date_read DateRead.Good
+dates : Form Date (Option Date) (λ d. is_date d.0) date_text date_read Some
 unfolding date_text date_read date_from
 dates = record {
   width = 8;
   number = λ d. d.0;
   of = λ n. record { 0 = n };
-  wrong = DateRead.Wrong;
+  wrong = None;
   from = date_from;
   short = lit< tt;
   text-is = λ d. refl;
@@ -175,16 +172,16 @@ dates = record {
   of_number = λ d e. refl;
   number_of = λ n. refl;
   good-one = λ d e h. cc;
-  good-not = λ d h. let z : ◌≡◌ {A = ℕ} 0 1 = cc in omega arith;
+  good-not = λ d h. cc;
 }
 
-pub date-round : (d : Date) → is_date d.0 ≡ true → date_read (date_text d) ≡ DateRead.Good d
+pub date-round : (d : Date) → is_date d.0 ≡ true → date_read (date_text d) ≡ Some d
 date-round = round dates
 
-pub date-back : (s : List ℕ) (d : Date) → date_read s ≡ DateRead.Good d → (is_date d.0 ≡ true) × (date_text d ≡ s)
+pub date-back : (s : List ℕ) (d : Date) → date_read s ≡ Some d → (is_date d.0 ≡ true) × (date_text d ≡ s)
 date-back = back dates
 
-pub date-same : (s t : List ℕ) (d : Date) → date_read s ≡ DateRead.Good d → date_read t ≡ DateRead.Good d → s ≡ t
+pub date-same : (s t : List ℕ) (d : Date) → date_read s ≡ Some d → date_read t ≡ Some d → s ≡ t
 date-same = same dates
 
 pub date-length : (d : Date) → is_date d.0 ≡ true → length (date_text d) ≡ 8
@@ -196,13 +193,13 @@ date-digits = of-digits dates
 
 -- ---- moments
 
-moments : Form Moment MomentRead is_moment moment_text moment_read MomentRead.Good
+moments : Form Moment (Option Moment) is_moment moment_text moment_read Some
 unfolding moment_text moment_read moment_from moment_of
 moments = record {
   width = 14;
   number = spelled;
   of = moment_of;
-  wrong = MomentRead.Wrong;
+  wrong = None;
   from = moment_from;
   short = lit< tt;
   text-is = λ m. refl;
@@ -213,16 +210,16 @@ moments = record {
   of_number = moment-of;
   number_of = λ n. omega arith;
   good-one = λ d e h. cc;
-  good-not = λ d h. let z : ◌≡◌ {A = ℕ} 0 1 = cc in omega arith;
+  good-not = λ d h. cc;
 }
 
-pub moment-round : (m : Moment) → is_moment m ≡ true → moment_read (moment_text m) ≡ MomentRead.Good m
+pub moment-round : (m : Moment) → is_moment m ≡ true → moment_read (moment_text m) ≡ Some m
 moment-round = round moments
 
-pub moment-back : (s : List ℕ) (m : Moment) → moment_read s ≡ MomentRead.Good m → (is_moment m ≡ true) × (moment_text m ≡ s)
+pub moment-back : (s : List ℕ) (m : Moment) → moment_read s ≡ Some m → (is_moment m ≡ true) × (moment_text m ≡ s)
 moment-back = back moments
 
-pub moment-same : (s t : List ℕ) (m : Moment) → moment_read s ≡ MomentRead.Good m → moment_read t ≡ MomentRead.Good m → s ≡ t
+pub moment-same : (s t : List ℕ) (m : Moment) → moment_read s ≡ Some m → moment_read t ≡ Some m → s ≡ t
 moment-same = same moments
 
 pub moment-length : (m : Moment) → is_moment m ≡ true → length (moment_text m) ≡ 14

@@ -12,16 +12,14 @@ use lib.Dec.{leb, eqb, lit<}
 use lib.ListN.{length, take, drop, get_or, length-drop, take-append-drop}
 use lib.Seq.{drop-cons, drop-drop, take-add, length-take-le, take-length}
 use borrow.Author.Tests.{le-leb, lt-leb, eq-eqb, ne_eqb}
+use Rattle.std.proofs.Common.{Option, Some, None}
 use Rattle.text.specs.Classes.{all_in, in_class}
 use Rattle.text.specs.declared.Class.TheVariants.{Digit}
 use Rattle.text.proofs.Laws.{and_left, and_right, and_both, all_append}
 use Rattle.digits.specs.Numerals.{numeral, numeral_from}
-use Rattle.digits.specs.declared.Number.TheVariants.{Is, Not}
 use Rattle.digits.proofs.Laws.{digit_low, digit-high, numeral-append, numeral-lt, fixed-is}
 use Rattle.calendar.specs.Dates.{year, month, day, is_day, is_date, is_time, is_moment, two, date_from, date_read, time_from, moment_of, moment_from, moment_read}
 use Rattle.calendar.specs.declared.Date.{Date}
-use Rattle.calendar.specs.declared.DateRead.{DateRead}
-use Rattle.calendar.specs.declared.MomentRead.{MomentRead}
 
 -- ---- digits in two parts
 
@@ -87,25 +85,25 @@ module _ (s : List ℕ) (long : 8 ≤ length s) (a b m d : ℕ) (p : Two s 0 a) 
   date-number =
       more s 6 (omega arith) ∙ rw (more s 4 (omega arith), more s 2 (omega arith), ← p.0, ← q.0, ← r.0, ← t.0) (omega arith)
 
-  pub date-good : is_day (a * 100 + b) m d ≡ true → DateRead.Good (record { 0 = (a * 100 + b) * 10000 + m * 100 + d }) ≡ date_from (Is (numeral (take 8 s)))
+  pub date-good : is_day (a * 100 + b) m d ≡ true → Some (record { 0 = (a * 100 + b) * 10000 + m * 100 + d }) ≡ date_from (Some (numeral (take 8 s)))
   unfolding date_from
   date-good e = rw (date-number, date-parts (a * 100 + b) m d r.1 t.1, e)
 
-  pub date-wrong : is_day (a * 100 + b) m d ≡ false → DateRead.Wrong ≡ date_from (Is (numeral (take 8 s)))
+  pub date-wrong : is_day (a * 100 + b) m d ≡ false → None ≡ date_from (Some (numeral (take 8 s)))
   unfolding date_from
   date-wrong e = rw (date-number, date-parts (a * 100 + b) m d r.1 t.1, e)
 
 -- a part of eight bytes
 module _ (s : List ℕ) where
-  pub not_eight : (length s ≡ 8 → ⊥) → DateRead.Wrong ≡ date_read s
+  pub not_eight : (length s ≡ 8 → ⊥) → None ≡ date_read s
   unfolding date_read date_from
   not_eight h = rw (fixed-is 8 s (lit< tt), ne_eqb (length s) 8 h)
 
-  pub eight-wrong : all_in Digit s ≡ false → DateRead.Wrong ≡ date_read s
+  pub eight-wrong : all_in Digit s ≡ false → None ≡ date_read s
   unfolding date_read date_from
   eight-wrong e = rw (fixed-is 8 s (lit< tt), e, and-false (eqb (length s) 8))
 
-  pub eight : length s ≡ 8 → all_in Digit s ≡ true → date_from (Is (numeral (take 8 s))) ≡ date_read s
+  pub eight : length s ≡ 8 → all_in Digit s ≡ true → date_from (Some (numeral (take 8 s))) ≡ date_read s
   unfolding date_read
   eight h e =
       let t : take 8 s ≡ s = ap (λ (k : ℕ). take k s) (sym h) ∙ take-length s in
@@ -128,39 +126,39 @@ module _ (s : List ℕ) (long : 14 ≤ length s) (a b d : ℕ) (p : Two s 8 a) (
       more (drop 8 s) 4 (omega arith)
       ∙ rw (more (drop 8 s) 2 (omega arith), drop-drop 4 8 s, drop-drop 2 8 s, ← p.0, ← q.0, ← r.0) (omega arith)
 
-  pub hour-wrong : 23 < a → Not ≡ time_from (numeral (take 6 (drop 8 s)))
+  pub hour-wrong : 23 < a → None ≡ time_from (numeral (take 6 (drop 8 s)))
   unfolding time_from
   hour-wrong h = rw (time-number, time-parts a b d q.1 r.1, lt-leb a 23 h)
 
   module _ (hour : a ≤ 23) where
-    pub minute-wrong : 59 < b → Not ≡ time_from (numeral (take 6 (drop 8 s)))
+    pub minute-wrong : 59 < b → None ≡ time_from (numeral (take 6 (drop 8 s)))
     unfolding time_from
     minute-wrong h = rw (time-number, time-parts a b d q.1 r.1, le-leb a 23 hour, lt-leb b 59 h)
 
     module _ (minute : b ≤ 59) where
-      pub second-wrong : 59 < d → Not ≡ time_from (numeral (take 6 (drop 8 s)))
+      pub second-wrong : 59 < d → None ≡ time_from (numeral (take 6 (drop 8 s)))
       unfolding time_from
       second-wrong h = rw (time-number, time-parts a b d q.1 r.1, le-leb a 23 hour, le-leb b 59 minute, lt-leb d 59 h)
 
-      pub time-good : d ≤ 59 → Is (a * 10000 + b * 100 + d) ≡ time_from (numeral (take 6 (drop 8 s)))
+      pub time-good : d ≤ 59 → Some (a * 10000 + b * 100 + d) ≡ time_from (numeral (take 6 (drop 8 s)))
       unfolding time_from
       time-good h = rw (time-number, time-parts a b d q.1 r.1, le-leb a 23 hour, le-leb b 59 minute, le-leb d 59 h)
 
 -- ---- a moment
 
 module _ (s : List ℕ) where
-  pub not-fourteen : (length s ≡ 14 → ⊥) → MomentRead.Wrong ≡ moment_read s
+  pub not-fourteen : (length s ≡ 14 → ⊥) → None ≡ moment_read s
   unfolding moment_read moment_from
   not-fourteen h = rw (fixed-is 14 s (lit< tt), ne_eqb (length s) 14 h)
 
-  wrong-digits : all_in Digit s ≡ false → MomentRead.Wrong ≡ moment_read s
+  wrong-digits : all_in Digit s ≡ false → None ≡ moment_read s
   unfolding moment_read moment_from
   wrong-digits e = rw (fixed-is 14 s (lit< tt), e, and-false (eqb (length s) 14))
 
-  pub front-wrong : all_in Digit (take 8 s) ≡ false → MomentRead.Wrong ≡ moment_read s
+  pub front-wrong : all_in Digit (take 8 s) ≡ false → None ≡ moment_read s
   front-wrong e = wrong-digits (all-parts 8 s ∙ rw e)
 
-  pub back-wrong : all_in Digit (drop 6 s) ≡ false → MomentRead.Wrong ≡ moment_read s
+  pub back-wrong : all_in Digit (drop 6 s) ≡ false → None ≡ moment_read s
   back-wrong e = wrong-digits (all-parts 6 s ∙ rw (e, and-false (all_in Digit (take 6 s))))
 
   -- the first eight bytes and those behind the first six are all
@@ -192,41 +190,41 @@ module _ (s : List ℕ) where
         in let t : numeral s % 1000000 ≡ numeral (drop 8 s) = omega arith
         in rw (d, t, behind)
 
-    read_is : moment_read s ≡ cond (is_date date-of && is_time time-of) (MomentRead.Good (record { date = record { 0 = date-of }; time = record { 0 = time-of } })) MomentRead.Wrong
+    read_is : moment_read s ≡ cond (is_date date-of && is_time time-of) (Some (record { date = record { 0 = date-of }; time = record { 0 = time-of } })) None
     unfolding moment_read moment_from is_moment
     read_is = rw (fixed-is 14 s (lit< tt), eq-eqb (length s) 14 size, all, moment-is)
 
-    pub no-date : date_from (Is (numeral (take 8 s))) ≡ DateRead.Wrong → MomentRead.Wrong ≡ moment_read s
+    pub no-date : date_from (Some (numeral (take 8 s))) ≡ None → None ≡ moment_read s
     unfolding date_from date-of
     no-date e = go (is_date date-of) refl e
       where
-        go : (b : Bool) → is_date date-of ≡ b → cond b (DateRead.Good (record { 0 = date-of })) DateRead.Wrong ≡ DateRead.Wrong → MomentRead.Wrong ≡ moment_read s
-        go true t h = let z : ◌≡◌ {A = ℕ} 0 1 = cc in absurd (omega arith)
+        go : (b : Bool) → is_date date-of ≡ b → cond {A = Option Date} b (Some (record { 0 = date-of })) None ≡ None → None ≡ moment_read s
+        go true t h = cc
         go false t h = sym (read_is ∙ rw t)
 
-    module _ (d : Date) (dated : date_from (Is (numeral (take 8 s))) ≡ DateRead.Good d) where
+    module _ (d : Date) (dated : date_from (Some (numeral (take 8 s))) ≡ Some d) where
       date-is : (is_date date-of ≡ true) × (record { 0 = date-of } ≡ d)
       unfolding date_from date-of
       date-is = go (is_date date-of) refl dated
         where
-          go : (b : Bool) → is_date date-of ≡ b → cond b (DateRead.Good (record { 0 = date-of })) DateRead.Wrong ≡ DateRead.Good d → (is_date date-of ≡ true) × (record { 0 = date-of } ≡ d)
+          go : (b : Bool) → is_date date-of ≡ b → cond b (Some (record { 0 = date-of })) None ≡ Some d → (is_date date-of ≡ true) × (record { 0 = date-of } ≡ d)
           go true t h = (t, cc)
-          go false t h = let z : ◌≡◌ {A = ℕ} 0 1 = cc in absurd (omega arith)
+          go false t h = cc
 
-      pub no-time : time_from (numeral (take 6 (drop 8 s))) ≡ Not → MomentRead.Wrong ≡ moment_read s
+      pub no-time : time_from (numeral (take 6 (drop 8 s))) ≡ None → None ≡ moment_read s
       unfolding time_from time-of
       no-time e = go (is_time time-of) refl e
         where
-          go : (b : Bool) → is_time time-of ≡ b → cond b (Is time-of) Not ≡ Not → MomentRead.Wrong ≡ moment_read s
-          go true t h = let z : ◌≡◌ {A = ℕ} 0 1 = cc in absurd (omega arith)
+          go : (b : Bool) → is_time time-of ≡ b → cond b (Some time-of) None ≡ None → None ≡ moment_read s
+          go true t h = cc
           go false t h = sym (read_is ∙ rw (t, and-false (is_date date-of)))
 
-      pub moment-good : (t : ℕ) → time_from (numeral (take 6 (drop 8 s))) ≡ Is t → MomentRead.Good (record { date = d; time = record { 0 = t } }) ≡ moment_read s
+      pub moment-good : (t : ℕ) → time_from (numeral (take 6 (drop 8 s))) ≡ Some t → Some (record { date = d; time = record { 0 = t } }) ≡ moment_read s
       unfolding time_from time-of
       moment-good t e = go (is_time time-of) refl e
         where
-          go : (b : Bool) → is_time time-of ≡ b → cond b (Is time-of) Not ≡ Is t → MomentRead.Good (record { date = d; time = record { 0 = t } }) ≡ moment_read s
+          go : (b : Bool) → is_time time-of ≡ b → cond b (Some time-of) None ≡ Some t → Some (record { date = d; time = record { 0 = t } }) ≡ moment_read s
           go true f h =
               let u : time-of ≡ t = cc in
               sym (read_is ∙ rw (date-is.0, f, u, date-is.1))
-          go false f h = let z : ◌≡◌ {A = ℕ} 0 1 = cc in absurd (omega arith)
+          go false f h = cc

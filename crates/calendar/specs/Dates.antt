@@ -1,13 +1,9 @@
 -- Document 01, "Dates": YYYYMMDD, year 0001 to 9999, Gregorian leap years; times 000000 to 235959 with minutes and seconds
 -- to 59; a date and time is 14 digits.
-use Rattle.std.specs.Prelude.{ℕ, ◌+◌, ◌*◌, ◌/◌, ◌%◌, Bool, ◌&&◌, ◌||◌, not, cond, List, [], ◌∷◌, leb, ltb, eqb, take, drop}
+use Rattle.std.specs.Prelude.{ℕ, ◌+◌, ◌*◌, ◌/◌, ◌%◌, Bool, ◌&&◌, ◌||◌, not, cond, List, [], leb, ltb, eqb, take, drop, Option, Some, None}
 use Rattle.digits.specs.Numerals.{numeral, digits, wide_number}
-use Rattle.digits.specs.declared.Number.{Number}
-use Rattle.digits.specs.declared.Number.TheVariants.{Is, Not}
 use Rattle.calendar.specs.declared.Date.{Date}
 use Rattle.calendar.specs.declared.Moment.{Moment}
-use Rattle.calendar.specs.declared.DateRead.{DateRead}
-use Rattle.calendar.specs.declared.MomentRead.{MomentRead}
 
 -- ---- the calendar
 
@@ -65,32 +61,34 @@ is_moment m = is_date m.date.0 && is_time m.time.0
 
 -- ---- reading: digits alone, as many as the form has, that name a day or a moment; anything else is wrong
 
-unfoldable pub date_from : Number → DateRead
-date_from (Is n) = cond (is_date n) (DateRead.Good (record { 0 = n })) DateRead.Wrong
-date_from Not = DateRead.Wrong
+unfoldable pub date_from : Option ℕ → Option Date
+date_from (Some n) = cond (is_date n) (Some (record { 0 = n })) None
+date_from None = None
 
-unfoldable pub date_read : List ℕ → DateRead
+unfoldable pub date_read : List ℕ → Option Date
 date_read s = date_from (wide_number 8 s)
 
 -- fourteen digits are the eight of the date and the six of the time
 unfoldable pub moment_of : ℕ → Moment
 moment_of n = record { date = record { 0 = n / 1000000 }; time = record { 0 = n % 1000000 } }
 
-unfoldable pub moment_from : Number → MomentRead
-moment_from (Is n) = cond (is_moment (moment_of n)) (MomentRead.Good (moment_of n)) MomentRead.Wrong
-moment_from Not = MomentRead.Wrong
+unfoldable pub moment_from : Option ℕ → Option Moment
+moment_from (Some n) = cond (is_moment (moment_of n)) (Some (moment_of n)) None
+moment_from None = None
 
-unfoldable pub moment_read : List ℕ → MomentRead
+unfoldable pub moment_read : List ℕ → Option Moment
 moment_read s = moment_from (wide_number 14 s)
 
 -- the number that the desk gets: 12 for whatever is wrong
-abbrev pub date_number : DateRead → ℕ
-date_number (DateRead.Good d) = 0
-date_number DateRead.Wrong = 12
+abbrev pub read_number : {T : Type 0} → Option T → ℕ
+read_number (Some t) = 0
+read_number None = 12
 
-abbrev pub moment_number : MomentRead → ℕ
-moment_number (MomentRead.Good m) = 0
-moment_number MomentRead.Wrong = 12
+abbrev pub date_number : Option Date → ℕ
+date_number d = read_number d
+
+abbrev pub moment_number : Option Moment → ℕ
+moment_number m = read_number m
 
 -- ---- writing: what is in form is written as its digits, and anything else as nothing
 
@@ -107,5 +105,5 @@ abbrev pub two : List ℕ → ℕ → ℕ
 two s at = numeral (take 2 (drop at s))
 
 -- a number that is a time of day
-unfoldable pub time_from : ℕ → Number
-time_from n = cond (is_time n) (Is n) Not
+unfoldable pub time_from : ℕ → Option ℕ
+time_from n = cond (is_time n) (Some n) None

@@ -11,11 +11,11 @@ use lib.Arith.{digits_lt, digits_div, digits_mod}
 use lib.Dec.{leb, eqb, lit<}
 use lib.ListN.{length, get_or, replicate, length-append, replicate-append-replicate}
 use borrow.Author.Tests.{leb-true, le-leb, eq-eqb, eqb-true}
+use Rattle.std.proofs.Common.{Some, None}
 use Rattle.text.specs.Classes.{all_in, in_class, is_digit, is_between}
 use Rattle.text.specs.declared.Class.TheVariants.{Digit}
 use Rattle.text.proofs.Laws.{and_left, and_right, and_both, all_append}
 use Rattle.digits.specs.Numerals.{numeral_from, numeral, digits, digit_run, number_of, wide_number}
-use Rattle.digits.specs.declared.Number.TheVariants.{Is, Not}
 
 -- ---- one digit
 
@@ -190,45 +190,45 @@ run-all s e = sym (ap (all_in Digit) (run_is s e)) ∙ run-digits s
 
 -- ---- a part of a fixed width, both ways: what dates and times rest on
 
-pub fixed-digits : (width n : ℕ) → width ≤ 18 → n < 10 ^ width → wide_number width (digits width n) ≡ Is n
+pub fixed-digits : (width n : ℕ) → width ≤ 18 → n < 10 ^ width → wide_number width (digits width n) ≡ Some n
 unfolding wide_number number_of
 fixed-digits width n w h =
     let l = length_digits width n in
     rw (eq-eqb _ _ l, l, le-leb width 18 w, all_digits width n, numeral-digits width n h)
 
 -- a part of that width and of digits alone is the digits of its number; any other part is none
-pub fixed-is : (width : ℕ) (s : List ℕ) → width ≤ 18 → wide_number width s ≡ cond (eqb (length s) width && all_in Digit s) (Is (numeral s)) Not
+pub fixed-is : (width : ℕ) (s : List ℕ) → width ≤ 18 → wide_number width s ≡ cond (eqb (length s) width && all_in Digit s) (Some (numeral s)) None
 unfolding wide_number number_of
 fixed-is width s w = go (eqb (length s) width) refl
   where
-    go : (b : Bool) → eqb (length s) width ≡ b → cond b (cond (leb (length s) 18 && all_in Digit s) (Is (numeral s)) Not) Not ≡ cond (b && all_in Digit s) (Is (numeral s)) Not
+    go : (b : Bool) → eqb (length s) width ≡ b → cond b (cond (leb (length s) 18 && all_in Digit s) (Some (numeral s)) None) None ≡ cond (b && all_in Digit s) (Some (numeral s)) None
     go true e = let l : length s ≡ width = eqb-true _ _ e in rw (le-leb (length s) 18 (omega arith))
     go false e = refl
 
-pub fixed_back : (width : ℕ) (s : List ℕ) (n : ℕ) → width ≤ 18 → wide_number width s ≡ Is n → digits width n ≡ s
+pub fixed_back : (width : ℕ) (s : List ℕ) (n : ℕ) → width ≤ 18 → wide_number width s ≡ Some n → digits width n ≡ s
 fixed_back width s n w e = go (eqb (length s) width && all_in Digit s) refl (sym (fixed-is width s w) ∙ e)
   where
-    go : (b : Bool) → (eqb (length s) width && all_in Digit s) ≡ b → cond b (Is (numeral s)) Not ≡ Is n → digits width n ≡ s
+    go : (b : Bool) → (eqb (length s) width && all_in Digit s) ≡ b → cond b (Some (numeral s)) None ≡ Some n → digits width n ≡ s
     go true t h =
         let m : numeral s ≡ n = cc in
         let l : length s ≡ width = eqb-true _ _ (and_left _ _ t) in
         rw (← m, ← l) (digits-numeral s (and_right (eqb (length s) width) _ t))
-    go false t h = let z : ◌≡◌ {A = ℕ} 0 1 = cc in absurd (omega arith)
+    go false t h = cc
 
 -- ---- what a number that was read, or was not, tells of the part
 
-pub number_is : (s : List ℕ) (n : ℕ) → number_of s ≡ Is n → (all_in Digit s ≡ true) × (numeral s ≡ n)
+pub number_is : (s : List ℕ) (n : ℕ) → number_of s ≡ Some n → (all_in Digit s ≡ true) × (numeral s ≡ n)
 unfolding number_of
 number_is s n e = go (leb (length s) 18 && all_in Digit s) refl e
   where
-    go : (b : Bool) → (leb (length s) 18 && all_in Digit s) ≡ b → cond b (Is (numeral s)) Not ≡ Is n → (all_in Digit s ≡ true) × (numeral s ≡ n)
+    go : (b : Bool) → (leb (length s) 18 && all_in Digit s) ≡ b → cond b (Some (numeral s)) None ≡ Some n → (all_in Digit s ≡ true) × (numeral s ≡ n)
     go true t h = (and_right (leb (length s) 18) _ t, cc)
-    go false t h = let z : ◌≡◌ {A = ℕ} 0 1 = cc in absurd (omega arith)
+    go false t h = cc
 
-pub number-not : (s : List ℕ) → length s ≤ 18 → number_of s ≡ Not → all_in Digit s ≡ false
+pub number-not : (s : List ℕ) → length s ≤ 18 → number_of s ≡ None → all_in Digit s ≡ false
 unfolding number_of
 number-not s short e = go (all_in Digit s) (rw (le-leb (length s) 18 short) at e)
   where
-    go : (b : Bool) → cond b (Is (numeral s)) Not ≡ Not → b ≡ false
-    go true h = let z : ◌≡◌ {A = ℕ} 0 1 = cc in absurd (omega arith)
+    go : (b : Bool) → cond b (Some (numeral s)) None ≡ None → b ≡ false
+    go true h = cc
     go false h = refl

@@ -13,13 +13,13 @@ use lib.Dec.{leb, lit<}
 use lib.ListN.{length, drop, get_or, set, drop_of_length-le}
 use lib.Seq.{drop-cons}
 use borrow.Author.Tests.{le-leb, lt-leb, lt-ltb, le-ltb, leb-false}
+use Rattle.std.proofs.Common.{Some, None}
 use Rattle.text.specs.Classes.{all_in, in_class}
 use Rattle.text.specs.Copy.{over, fits, placed, after}
 use Rattle.text.specs.declared.Class.TheVariants.{Digit}
 use Rattle.text.proofs.Laws.{over-nil, over-set}
 use Rattle.digits.specs.Numerals.{numeral_from, numeral, digits, digit_run, short_run, run_of, number_of, ten_to}
 use Rattle.digits.specs.declared.Run.{Run}
-use Rattle.digits.specs.declared.Number.TheVariants.{Is, Not}
 use Rattle.digits.proofs.Laws.{digit_low, digit-high, length_digits, run_is, run-all, all-run}
 
 -- ---- powers of ten
@@ -109,11 +109,11 @@ module _ (s : List ℕ) (n i : ℕ) (a : Ahead s n i) (short : length s ≤ 18) 
 
 -- a part is a number where the digits in front are all of it
 module _ (s : List ℕ) (n k : ℕ) (ran : Ran s n k) where
-  pub whole_run : k ≡ length s → Is n ≡ number_of s
+  pub whole_run : k ≡ length s → Some n ≡ number_of s
   unfolding number_of short_run
   whole_run e = go (leb (length s) 18) refl
     where
-      go : (b : Bool) → leb (length s) 18 ≡ b → Is n ≡ cond (b && all_in Digit s) (Is (numeral s)) Not
+      go : (b : Bool) → leb (length s) 18 ≡ b → Some n ≡ cond (b && all_in Digit s) (Some (numeral s)) None
       go true t =
           let l : length (digit_run s) ≡ length s = sym (rw t at ran.1) ∙ e in
           let m : n ≡ numeral (digit_run s) = rw t at ran.0 in
@@ -123,11 +123,11 @@ module _ (s : List ℕ) (n k : ℕ) (ran : Ran s n k) where
           let l : 18 < length s = leb-false _ _ t in
           absurd (omega arith)
 
-  pub part-run : (k ≡ length s → ⊥) → Not ≡ number_of s
+  pub part-run : (k ≡ length s → ⊥) → None ≡ number_of s
   unfolding number_of short_run
   part-run e = go (leb (length s) 18) (all_in Digit s) refl refl
     where
-      go : (b c : Bool) → leb (length s) 18 ≡ b → all_in Digit s ≡ c → Not ≡ cond (b && c) (Is (numeral s)) Not
+      go : (b c : Bool) → leb (length s) 18 ≡ b → all_in Digit s ≡ c → None ≡ cond (b && c) (Some (numeral s)) None
       go true true t d =
           let l : k ≡ length (digit_run s) = rw t at ran.1 in
           absurd (e (l ∙ ap length (all-run s d)))

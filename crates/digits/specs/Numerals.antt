@@ -1,10 +1,8 @@
 -- Digits and the whole number that they spell, both ways; dates, times and amounts are made of them.
-use Rattle.std.specs.Prelude.{ℕ, zero, suc, ◌+◌, ◌-◌, ◌*◌, ◌/◌, ◌%◌, ◌^◌, Bool, ◌&&◌, cond, List, [], ◌∷◌, ◌++◌, leb, ltb, eqb, length}
+use Rattle.std.specs.Prelude.{ℕ, zero, suc, ◌+◌, ◌-◌, ◌*◌, ◌/◌, ◌%◌, ◌^◌, Bool, ◌&&◌, cond, List, [], ◌∷◌, ◌++◌, leb, ltb, eqb, length, Option, Some, None}
 use Rattle.text.specs.Classes.{all_in, in_class}
 use Rattle.text.specs.declared.Class.TheVariants.{Digit}
 use Rattle.digits.specs.declared.Run.{Run}
-use Rattle.digits.specs.declared.Number.{Number}
-use Rattle.digits.specs.declared.Number.TheVariants.{Is, Not}
 
 -- digits read on behind a number that was read already
 unfoldable pub numeral_from : ℕ → List ℕ → ℕ
@@ -37,12 +35,12 @@ unfoldable pub run_of : List ℕ → Run
 run_of s = record { number = numeral (short_run s); len = length (short_run s) }
 
 -- a part as a number: digits alone, at most eighteen of them, so that every number fits its place
-unfoldable pub number_of : List ℕ → Number
-number_of s = cond (leb (length s) 18 && all_in Digit s) (Is (numeral s)) Not
+unfoldable pub number_of : List ℕ → Option ℕ
+number_of s = cond (leb (length s) 18 && all_in Digit s) (Some (numeral s)) None
 
 -- the same of a part that has exactly `width` digits
-unfoldable pub wide_number : ℕ → List ℕ → Number
-wide_number width s = cond (eqb (length s) width) (number_of s) Not
+unfoldable pub wide_number : ℕ → List ℕ → Option ℕ
+wide_number width s = cond (eqb (length s) width) (number_of s) None
 
 -- the power of ten that moves a comma by a number of places, up to fourteen
 unfoldable pub ten_to : ℕ → ℕ

@@ -10,13 +10,6 @@ ghost use Rattle.digits.specs.Numerals.{digits, run_of, number_of, ten_to};
 
 use text::Class;
 
-// A part of a message as a number.
-#[derive(Clone, Copy)]
-pub enum Number {
-    Is(u64),
-    Not,
-}
-
 // The digits that a part begins with: the number that they spell, and how many they are.
 #[derive(Clone, Copy)]
 pub struct Run {
@@ -31,51 +24,49 @@ pub fn ten_to(places: usize) -> u64
     if 14 < places {
         return 0;
     }
-    let mut n: u64 = 1;
-    let mut i = 0;
-    while i < places {
-        n = n * 10;
-        i += 1;
+    let mut power = 1;
+    for _place in 0..places {
+        power *= 10;
     }
-    n
+    power
 }
 
 fn value(digit: u8) -> u64
     requires { is_digit digit ≡ true }
     ensures { result ≡ digit - 48 }
 {
-    digit as u64 - 48
+    u64::from(digit - b'0')
 }
 
 // The digits that a part of at most eighteen bytes begins with; of a longer part none.
 pub fn front(part: &[u8]) -> Run
     ensures { result ≡ run_of part.now }
 {
-    let mut n: u64 = 0;
-    let mut i = 0;
     if 18 < part.len() {
-        return Run { number: n, len: i };
+        return Run { number: 0, len: 0 };
     }
-    while i < part.len() {
-        let b = part[i];
-        if !text::in_class(Class::Digit, b) {
-            return Run { number: n, len: i };
+    let mut number = 0;
+    for (len, byte) in part.iter().enumerate() {
+        if !text::in_class(Class::Digit, *byte) {
+            return Run { number, len };
         }
-        n = n * 10 + value(b);
-        i += 1;
+        number = number * 10 + value(*byte);
     }
-    Run { number: n, len: i }
+    Run {
+        number,
+        len: part.len(),
+    }
 }
 
-// The number that a part of at most eighteen digits spells; no digits spell 0.
-pub fn read_digits(part: &[u8]) -> Number
+// The number that a part of at most eighteen digits spells; no digits spell 0, and any other part spells none.
+pub fn read_digits(part: &[u8]) -> Option<u64>
     ensures { result ≡ number_of part.now }
 {
     let run = front(part);
     if run.len == part.len() {
-        Number::Is(run.number)
+        Some(run.number)
     } else {
-        Number::Not
+        None
     }
 }
 
@@ -89,12 +80,11 @@ pub fn put_digits(buf: &mut [u8], at: usize, width: usize, number: u64) -> usize
     if buf.len() - at < width {
         return at;
     }
-    let mut left = width;
+    // By place: of a mutable iterator from the back the proof did not close, since it tells what the buffer holds only at its end.
     let mut rest = number;
-    while 0 < left {
-        left -= 1;
-        buf[at + left] = 48 + (rest % 10) as u8;
-        rest = rest / 10;
+    for left in (0..width).rev() {
+        buf[at + left] = b'0' + (rest % 10) as u8;
+        rest /= 10;
     }
     at + width
 }

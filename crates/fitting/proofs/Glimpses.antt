@@ -8,6 +8,7 @@ use mathlib.Core.List.{List, [], ◌∷◌}
 use native.Mathlib.Omega.{arith}
 use lib.Dec.{eqb}
 use lib.ListN.{length, take, drop, get_or}
+use Rattle.std.proofs.Common.{Some}
 use Rattle.text.specs.Bytes.{begins, before}
 use Rattle.text.specs.Classes.{printed}
 use Rattle.text.proofs.Bools.{of-both}
@@ -165,11 +166,11 @@ module _ (t : List ℕ) (here : Place) (seen s : List ℕ) (row deep : ℕ) (unm
         takes = λ l. scan-stop here seen (without_ending s) t row deep unmarked false (inv c l) h seen_at refl step (k.takes l);
       }
 
-  pub edge-fits : (step : Step) (width : ℕ) → g ≡ Glimpse.Edge step width → Fitted (rows_of t) here seen s (Fit.Edge step width)
+  pub edge-fits : (step : Step) (width : ℕ) → g ≡ Glimpse.Edge step width → Fitted (rows_of t) here seen s (Some (Fit.Edge step width))
   unfolding Told Fitted
   edge-fits step width f c = let k = (rw f at told) (clean_at t row h c) in (fits step width c k.0, k.1, k.2)
 
-  pub field_fits : (step : Step) (width : ℕ) → g ≡ Glimpse.Field step width → Fitted (rows_of t) here seen s (Fit.Field step width)
+  pub field_fits : (step : Step) (width : ℕ) → g ≡ Glimpse.Field step width → Fitted (rows_of t) here seen s (Some (Fit.Field step width))
   unfolding Told Fitted
   field_fits step width f c = let k = (rw f at told) (clean_at t row h c) in (fits step width c k.0, k.1)
 

@@ -1,6 +1,6 @@
 -- The row of a table that the line at the front of a text fits, seen from its first bytes on. What is said goes one way: where a row is
 -- told, the table takes the line so; where none is, nothing is said.
-use Rattle.std.specs.Prelude.{ℕ, ◌+◌, ◌-◌, ◌≤◌, ◌<◌, ◌≡◌, Bool, true, ◌&&◌, ◌||◌, cond, List, [], ◌∷◌, eqb, length, take, drop}
+use Rattle.std.specs.Prelude.{ℕ, ◌+◌, ◌-◌, ◌≤◌, ◌<◌, ◌≡◌, Bool, true, ◌&&◌, ◌||◌, cond, List, [], ◌∷◌, eqb, length, take, drop, Option, Some, None}
 use Rattle.text.specs.Bytes.{begins, before}
 use Rattle.text.specs.Classes.{is_between, printed}
 use Rattle.lines.specs.Lines.{without_ending, ending_width}
@@ -10,7 +10,6 @@ use Rattle.layout.specs.Layout.{moves, enters, takes, is_seen, lacks, step_of}
 use Rattle.layout.specs.declared.Place.{Place}
 use Rattle.layout.specs.declared.Step.{Step}
 use Rattle.fitting.specs.declared.Fit.{Fit}
-use Rattle.fitting.specs.declared.Fit.TheVariants.{Edge, Field, Not}
 use Rattle.fitting.specs.declared.Glimpse.{Glimpse}
 
 -- ---- the texts of a table are of 20 to 7E hex
@@ -47,10 +46,10 @@ pub record Fits (table : List Row) (here : Place) (seen s : List ℕ) (step : St
   pub takes : length (before 10 s) < length s → step ≡ step_of table here seen (without_ending s)
 
 -- the first or last line of a block is the text of its row and its ending; a field's has a value behind the text
-unfoldable pub Fitted : List Row → Place → List ℕ → List ℕ → Fit → Type 0
-Fitted table here seen s (Edge step width) = clean_rows table ≡ true → Fits table here seen s step width × (step.slot ≡ 0) × (ends_line (drop width s) ≡ true)
-Fitted table here seen s (Field step width) = clean_rows table ≡ true → Fits table here seen s step width × (step.width ≡ width)
-Fitted table here seen s Not = Unit
+unfoldable pub Fitted : List Row → Place → List ℕ → List ℕ → Option Fit → Type 0
+Fitted table here seen s (Some (Fit.Edge step width)) = clean_rows table ≡ true → Fits table here seen s step width × (step.slot ≡ 0) × (ends_line (drop width s) ≡ true)
+Fitted table here seen s (Some (Fit.Field step width)) = clean_rows table ≡ true → Fits table here seen s step width × (step.width ≡ width)
+Fitted table here seen s None = Unit
 
 -- ---- a step of the code: the text against one row, as layout holds a line against it (specs/Layout, `against` and `beneath`). It fits,
 -- or goes further with the blocks that are being passed over and whether a mark was. What layout refuses is `Not`, and so is a mandatory

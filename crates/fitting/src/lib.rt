@@ -11,12 +11,11 @@ ghost use Rattle.fitting.specs.Fitting.{Fitted, is_edge, glimpse, glimpse_beneat
 
 use layout::{Kind, Place, Step};
 
-// The line is the first or the last of a block, or a field's: what it does, and how many bytes the text of its row has. Or nothing is told.
+// The line is the first or the last of a block, or a field's: what it does, and how many bytes the text of its row has.
 #[derive(Clone, Copy)]
 pub enum Fit {
     Edge(Step, usize),
     Field(Step, usize),
-    Not,
 }
 
 // The text against one row: the line fits it, or goes further with the blocks that are being passed over and whether a mark was; or
@@ -216,22 +215,22 @@ fn see(
     }
 }
 
-// The row from a place on, with the slots that were seen, that the line at the front of a text fits.
-pub fn row_for(table: &[u8], here: Place, seen: &[u8], text: &[u8]) -> Fit
+// The row from a place on, with the slots that were seen, that the line at the front of a text fits; or nothing is told.
+pub fn row_for(table: &[u8], here: Place, seen: &[u8], text: &[u8]) -> Option<Fit>
     ensures { Fitted (rows_of table.now) here seen.now text.now result }
 {
     let mut deep = 0;
     let mut unmarked = false;
     for row in here.row..table.len() / 16 {
         match see(table, row, seen, text, here, deep, unmarked) {
-            Glimpse::Edge(step, width) => return Fit::Edge(step, width),
-            Glimpse::Field(step, width) => return Fit::Field(step, width),
+            Glimpse::Edge(step, width) => return Some(Fit::Edge(step, width)),
+            Glimpse::Field(step, width) => return Some(Fit::Field(step, width)),
             Glimpse::Further(d, u) => {
                 deep = d;
                 unmarked = u;
             }
-            Glimpse::Not => return Fit::Not,
+            Glimpse::Not => return None,
         }
     }
-    Fit::Not
+    None
 }

@@ -11,13 +11,13 @@ use lib.Dec.{leb, ltb, eqb}
 use lib.ListN.{length, take, drop, get_or, set, length-take, length-drop, get_or-eq_default}
 use lib.Seq.{take-take, drop-drop, drop-nil}
 use borrow.Author.Tests.{le-leb, leb-true, ltb-true, ltb-false, eqb-true, not-true}
+use Rattle.std.proofs.Common.{Some, None}
 use Rattle.text.proofs.Laws.{and_left, and_right}
 use Rattle.text.proofs.Bools.{is_false, or_left, or_right}
 use Rattle.lines.specs.declared.Verdict.{Verdict}
 use Rattle.lines.proofs.Laws.{drop-front, then-zero}
 use Rattle.stretches.specs.Stretches.{slot_count, between, stretch_of}
 use Rattle.amount.specs.Amounts.{is_amount, meaning, amount_read, amount_number, shortest_of}
-use Rattle.amount.specs.declared.AmountRead.TheVariants.{Good, Wrong}
 use Rattle.amount.proofs.Shortening.{lies_within, shortest_in, shortest-tidy, shortest-none}
 use Rattle.forms.specs.Forms.{Form, nothing, codes, characters, words, amount, date, moment, narrative, pool_narrative, other, form_number}
 use Rattle.sheets.specs.Trees.{table_of}
@@ -97,7 +97,7 @@ amount-is : (v : List ℕ) → amount_number (amount_read v) ≡ 0 → is_amount
 unfolding amount_read
 amount-is v e = go (is_amount v) refl e
   where
-    go : (b : Bool) → is_amount v ≡ b → amount_number (cond b (Good (meaning v)) Wrong) ≡ 0 → b ≡ true
+    go : (b : Bool) → is_amount v ≡ b → amount_number (cond b (Some (meaning v)) None) ≡ 0 → b ≡ true
     go true t h = refl
     go false t h = let z : ⊥ = omega arith in absurd z
 

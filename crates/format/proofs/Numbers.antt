@@ -8,16 +8,17 @@ use mathlib.Core.List.{List, [], ◌∷◌}
 use lib.Dec.{leb, ltb, eqb}
 use lib.ListN.{length, drop, get_or}
 use borrow.Author.Tests.{leb-true}
+use Rattle.std.proofs.Common.{Option, Some, None}
 use Rattle.text.specs.Bytes.{bytes, begins, same}
 use Rattle.lines.specs.Verdicts.{refused, pass, then, when}
 use Rattle.lines.specs.Lines.{lines_of, ended, may_stand, size_pass, byte_pass, end_pass, lines_pass}
 use Rattle.lines.specs.declared.Verdict.{Verdict}
 use Rattle.blocks.specs.Blocks.{Turn, goes, stops, over, ending, opening, closing, turn, named, role_of, name_of, is_tagged, follow, nest, nest_pass}
 use Rattle.amount.specs.Amounts.{amount_read, amount_number}
-use Rattle.amount.specs.declared.AmountRead.{AmountRead}
+use Rattle.amount.specs.declared.Amount.{Amount}
 use Rattle.calendar.specs.Dates.{date_read, date_number, moment_read, moment_number}
-use Rattle.calendar.specs.declared.DateRead.{DateRead}
-use Rattle.calendar.specs.declared.MomentRead.{MomentRead}
+use Rattle.calendar.specs.declared.Date.{Date}
+use Rattle.calendar.specs.declared.Moment.{Moment}
 use Rattle.forms.specs.Forms.{Form, nothing, codes, characters, words, amount, date, moment, narrative, pool_narrative, other, Slot, is_word, unless, form_number, value_number}
 use Rattle.text.specs.Classes.{is_all, is_code}
 use Rattle.forms.specs.Narrative.{is_narrative}
@@ -123,17 +124,17 @@ nest-few n blocks (l ∷ ls) =
 abbrev FewOf : ℕ → Type 0
 FewOf n = n ≤ 12
 
-amount-few : (r : AmountRead) → FewOf (amount_number r)
-amount-few (AmountRead.Good a) = few _ _ refl
-amount-few AmountRead.Wrong = few _ _ refl
+amount-few : (r : Option Amount) → FewOf (amount_number r)
+amount-few (Some a) = few _ _ refl
+amount-few None = few _ _ refl
 
-date-few : (r : DateRead) → FewOf (date_number r)
-date-few (DateRead.Good d) = few _ _ refl
-date-few DateRead.Wrong = few _ _ refl
+date-few : (r : Option Date) → FewOf (date_number r)
+date-few (Some d) = few _ _ refl
+date-few None = few _ _ refl
 
-moment-few : (r : MomentRead) → FewOf (moment_number r)
-moment-few (MomentRead.Good m) = few _ _ refl
-moment-few MomentRead.Wrong = few _ _ refl
+moment-few : (r : Option Moment) → FewOf (moment_number r)
+moment-few (Some m) = few _ _ refl
+moment-few None = few _ _ refl
 
 unless-few : (b : Bool) → FewOf (unless b)
 unfolding unless

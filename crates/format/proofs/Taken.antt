@@ -11,6 +11,7 @@ use lib.Dec.{eqb}
 use lib.ListN.{length, take, drop, replicate}
 use lib.Seq.{length-take-le, take_all}
 use borrow.Author.Tests.{eq-eqb, ne_eqb, eqb-true, eqb-false}
+use Rattle.std.proofs.Common.{Option, Some}
 use Rattle.lines.specs.Verdicts.{pass, refused}
 use Rattle.lines.specs.declared.Verdict.{Verdict}
 use Rattle.lines.proofs.Laws.{then-zero}
@@ -23,8 +24,6 @@ use Rattle.walk.specs.Walk.{taken_in}
 use Rattle.walk.specs.declared.Body.{Body}
 use Rattle.reader.specs.Take.{placeless}
 use Rattle.reader.proofs.Laws.{pass_of, take-verdict}
-use Rattle.measure.specs.declared.Width.{Width}
-use Rattle.measure.specs.declared.Width.TheVariants.{Is}
 use Rattle.glance.specs.Glance.{Says}
 use Rattle.format.specs.Format.{Format}
 use Rattle.format.specs.Reading.{reading, body_of, value_on, rules_of, verdict_of, read_of}
@@ -37,7 +36,7 @@ use Rattle.format.proofs.Glancing.{tables-clean, glance-takes}
 use Rattle.format.proofs.Chain.{Readable, judged, judged-is}
 
 -- what a glance says, from places that are all 0
-abbrev pub Told : Format → List ℕ → List ℕ → List ℕ → Width → Type 0
+abbrev pub Told : Format → List ℕ → List ℕ → List ℕ → Option ℕ → Type 0
 Told F s starts ends w = Says (table_of F.tree) F.slot_of F.header s (replicate {A = ℕ} slot_count 0) (replicate {A = ℕ} slot_count 0) starts ends w
 
 -- so the piece at the front of a text is read, and so many bytes it has
@@ -46,10 +45,10 @@ Front F s r n = (r ≡ read_of F (piece_of s)) × (n ≡ length (piece_of s))
 
 -- ---- by a glance
 
-module _ (F : Format) (R : Readable F) (s starts ends : List ℕ) (w : Width) (n : ℕ) (is : w ≡ Is n) (t : Told F s starts ends w) where
+module _ (F : Format) (R : Readable F) (s starts ends : List ℕ) (w : Option ℕ) (n : ℕ) (is : w ≡ Some n) (t : Told F s starts ends w) where
   glanced : GlancedIn F s starts ends n
   unfolding Says
-  glanced = let k : Told F s starts ends (Is n) = rw is at t in k (tables-clean F R.layout R.clean)
+  glanced = let k : Told F s starts ends (Some n) = rw is at t in k (tables-clean F R.layout R.clean)
 
   pub glanced-within : n ≤ length s
   glanced-within = glanced.within

@@ -11,6 +11,7 @@ use native.Mathlib.Omega.{arith}
 use lib.Dec.{leb, ltb, eqb}
 use lib.ListN.{length, get_or}
 use borrow.Author.Tests.{le-leb, leb-true, ltb-true, ne_eqb, eqb-true}
+use Rattle.std.proofs.Common.{Option, Some, None}
 use Rattle.text.specs.Classes.{all_in, is_all}
 use Rattle.text.specs.Texts.{contents, text_of, in_form_of, in_form as text_form}
 use Rattle.text.specs.declared.Class.{Class}
@@ -21,7 +22,6 @@ use Rattle.text.proofs.Laws as Texts
 use Rattle.text.proofs.Laws.{and_left, and_right}
 use Rattle.amount.specs.Amounts.{amount_read, amount_number, amount_text, in_form as amount_form}
 use Rattle.amount.specs.declared.Amount.{Amount}
-use Rattle.amount.specs.declared.AmountRead.{AmountRead}
 use Rattle.amount.proofs.Laws.{amount-round}
 use Rattle.forms.specs.Forms.{codes, characters, amount, unless, form_number, value_number}
 use Rattle.forms.proofs.Laws.{unless-good}
@@ -65,7 +65,7 @@ module _ {T : Type 0} (absent : T) (there : Amount → T) (held_as : List ℕ �
   -- nothing is held as absent, and an amount as itself
   pub record Perhaps : Type 0 where
     pub of_none : held_as [] ≡ absent
-    pub of-amount : (v : List ℕ) (a : Amount) → amount_read v ≡ AmountRead.Good a → held_as v ≡ there a
+    pub of-amount : (v : List ℕ) (a : Amount) → amount_read v ≡ Some a → held_as v ≡ there a
 
   module _ (p : Perhaps) where
     -- what is held and written is held again
@@ -79,11 +79,11 @@ module _ {T : Type 0} (absent : T) (there : Amount → T) (held_as : List ℕ �
       perhaps-kept v (inl e) = rw (e, p.of_none) (form-none, text-none ∙ sym (tidied-none amount))
       perhaps-kept v (inr e) = go (amount_read v) refl e
         where
-          go : (r : AmountRead) → amount_read v ≡ r → amount_number r ≡ 0 → (form (held_as v) ≡ true) × (spelled (held_as v) ≡ tidied amount v)
-          go (AmountRead.Good a) q z =
+          go : (r : Option Amount) → amount_read v ≡ r → amount_number r ≡ 0 → (form (held_as v) ≡ true) × (spelled (held_as v) ≡ tidied amount v)
+          go (Some a) q z =
               let k = rw q at (amount-text v e) in
               rw (p.of-amount v a q) (form-one a ∙ k.0, text-one a ∙ k.1)
-          go AmountRead.Wrong q z = let w : ⊥ = omega arith in absurd w
+          go None q z = let w : ⊥ = omega arith in absurd w
 
 -- ---- one slot
 

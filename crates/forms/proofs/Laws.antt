@@ -9,15 +9,15 @@ use native.Mathlib.Omega.{arith}
 use lib.Dec.{ltb}
 use lib.ListN.{length, drop, get_or, length-take}
 use borrow.Author.Tests.{ltb-true, lt-ltb}
+use Rattle.std.proofs.Common.{Some, None, Option}
 use Rattle.text.specs.Bytes.{begins, same}
 use Rattle.text.specs.Classes.{all_in}
 use Rattle.text.specs.declared.Class.TheVariants.{Digit}
 use Rattle.text.proofs.Laws.{same-eq, begins-is}
 use Rattle.amount.specs.Amounts.{is_amount, meaning, amount_read, amount_number}
-use Rattle.amount.specs.declared.AmountRead.{AmountRead}
 use Rattle.calendar.specs.Dates.{date_read, date_number, moment_read, moment_number}
-use Rattle.calendar.specs.declared.DateRead.{DateRead}
-use Rattle.calendar.specs.declared.MomentRead.{MomentRead}
+use Rattle.calendar.specs.declared.Date.{Date}
+use Rattle.calendar.specs.declared.Moment.{Moment}
 use Rattle.calendar.proofs.Laws.{date-back, date-length, date-digits, moment-back, moment-length, moment-digits}
 use Rattle.forms.specs.Forms.{Slot, word_at, is_word, unless, form_number, value_number}
 use Rattle.forms.specs.Slots.{reaches, text_in, slot_at}
@@ -67,7 +67,7 @@ pub amount-good : (v : List ℕ) → amount_number (amount_read v) ≡ 0 → is_
 unfolding amount_read
 amount-good v e = go (is_amount v) e
   where
-    go : (b : Bool) → amount_number (cond b (AmountRead.Good (meaning v)) AmountRead.Wrong) ≡ 0 → b ≡ true
+    go : (b : Bool) → amount_number (cond b (Some (meaning v)) None) ≡ 0 → b ≡ true
     go true h = refl
     go false h = let z : ⊥ = omega arith in absurd z
 
@@ -75,17 +75,17 @@ amount-good v e = go (is_amount v) e
 pub date-good : (v : List ℕ) → date_number (date_read v) ≡ 0 → (all_in Digit v ≡ true) × (length v ≡ 8)
 date-good v e = go (date_read v) refl e
   where
-    go : (r : DateRead) → date_read v ≡ r → date_number r ≡ 0 → (all_in Digit v ≡ true) × (length v ≡ 8)
-    go (DateRead.Good d) t h =
+    go : (r : Option Date) → date_read v ≡ r → date_number r ≡ 0 → (all_in Digit v ≡ true) × (length v ≡ 8)
+    go (Some d) t h =
         let b = date-back v d t in
         (sym (ap (all_in Digit) b.1) ∙ date-digits d, sym (ap length b.1) ∙ date-length d b.0)
-    go DateRead.Wrong t h = let z : ⊥ = omega arith in absurd z
+    go None t h = let z : ⊥ = omega arith in absurd z
 
 pub moment-good : (v : List ℕ) → moment_number (moment_read v) ≡ 0 → (all_in Digit v ≡ true) × (length v ≡ 14)
 moment-good v e = go (moment_read v) refl e
   where
-    go : (r : MomentRead) → moment_read v ≡ r → moment_number r ≡ 0 → (all_in Digit v ≡ true) × (length v ≡ 14)
-    go (MomentRead.Good m) t h =
+    go : (r : Option Moment) → moment_read v ≡ r → moment_number r ≡ 0 → (all_in Digit v ≡ true) × (length v ≡ 14)
+    go (Some m) t h =
         let b = moment-back v m t in
         (sym (ap (all_in Digit) b.1) ∙ moment-digits m, sym (ap length b.1) ∙ moment-length m b.0)
-    go MomentRead.Wrong t h = let z : ⊥ = omega arith in absurd z
+    go None t h = let z : ⊥ = omega arith in absurd z

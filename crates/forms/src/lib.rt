@@ -20,27 +20,19 @@ pub fn word_at(words: &[u8], value: &[u8]) -> usize
     ensures { result ≡ word_at (words_of words.now) value.now }
 {
     let count = words.len() / 4;
-    let mut i = 0;
-    while i < count {
+    for i in 0..count {
         let at = i * 4;
         if text::equals(value, &words[at..at + 4]) {
             return i;
         }
-        i += 1;
     }
-    i
+    count
 }
 
 fn unless(good: bool) -> u64
     ensures { result ≡ unless good }
 {
     if good { 0 } else { 10 }
-}
-
-fn wide(byte: u8) -> usize
-    ensures { result ≡ byte }
-{
-    byte as usize
 }
 
 // The fixed text of a slot, which is the text of its line; a word behind the slots is the text of its line too.
@@ -60,23 +52,21 @@ pub fn fixed_text(slots: &[u8], slot: usize) -> &[u8]
 pub fn word_in(slots: &[u8], first: u8, count: u8, value: &[u8]) -> usize
     ensures { result ≡ word_at (words_in slots.now first count) value.now }
 {
-    let from = wide(first);
-    let lines = wide(count);
-    let mut k = 0;
-    while k < lines {
+    let from = usize::from(first);
+    let lines = usize::from(count);
+    for k in 0..lines {
         if text::equals(value, fixed_text(slots, from + k)) {
             return k;
         }
-        k += 1;
     }
-    k
+    lines
 }
 
 // From a least to a most number of bytes of a class.
 fn judge_characters(class: Class, least: u8, most: u8, value: &[u8]) -> u64
     ensures { result ≡ form_number (characters class least most) value.now }
 {
-    unless(text::is_all(class, value, wide(least), wide(most)))
+    unless(text::is_all(class, value, usize::from(least), usize::from(most)))
 }
 
 // What follows the fixed text of a slot, by the slot's line.
@@ -89,11 +79,11 @@ fn judge_form(slots: &[u8], line: &[u8], value: &[u8]) -> u64
     let most = line[2];
     match kind {
         0 => unless(value.len() == 0),
-        1 => unless(text::is_code(value, wide(least), wide(most))),
-        2 => unless(word_in(slots, least, most, value) < wide(most)),
-        3 => Amount::read(value).number(),
-        4 => Date::read(value).number(),
-        5 => Moment::read(value).number(),
+        1 => unless(text::is_code(value, usize::from(least), usize::from(most))),
+        2 => unless(word_in(slots, least, most, value) < usize::from(most)),
+        3 => amount::number(Amount::read(value)),
+        4 => calendar::number(Date::read(value)),
+        5 => calendar::number(Moment::read(value)),
         6 => unless(narrative::is_narrative(value)),
         7 => pool::number(value),
         8 => judge_characters(Class::Hyphened, least, most, value),

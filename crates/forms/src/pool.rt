@@ -69,5 +69,5 @@ pub fn number(value: &[u8]) -> u64
     if !has_delivery(value) {
         return 0;
     }
-    Date::read(delivery_in(value)).number()
+    calendar::number(Date::read(delivery_in(value)))
 }

@@ -7,6 +7,7 @@ use mathlib.Core.List.{List, ◌++◌}
 use native.Mathlib.Omega.{arith}
 use lib.ListN.{length, take, drop, take-append-drop}
 use lib.Seq.{take-take}
+use Rattle.std.proofs.Common.{Some}
 use Rattle.text.specs.Classes.{printed}
 use Rattle.text.proofs.Printed.{printed-append}
 use Rattle.lines.proofs.Laws.{drop-front}
@@ -16,15 +17,14 @@ use Rattle.layout.specs.Layout.{step_of}
 use Rattle.layout.specs.declared.Place.{Place}
 use Rattle.layout.specs.declared.Step.{Step}
 use Rattle.measure.specs.Measure.{clean_slot, Measured}
-use Rattle.measure.specs.declared.Width.TheVariants.{Is}
 use Rattle.fitting.specs.Fitting.{clean_rows, Fits, Fitted}
-use Rattle.fitting.specs.declared.Fit.TheVariants.{Edge, Field}
+use Rattle.fitting.specs.declared.Fit.{Fit}
 use Rattle.glance.specs.Steps.{Ended, Tells, Sees, Told, FieldSeen}
 use Rattle.glance.specs.declared.Taken.{Taken}
 use Rattle.glance.proofs.Lines.{told-first}
 
 -- a value behind the text of its row, as so many bytes behind it
-pub field-seen : (slot : Slot) (s : List ℕ) (step : Step) (width n : ℕ) (t : Taken) → width ≤ length s → Measured slot (drop width s) (Is n) → Told s step width (width + n) t
+pub field-seen : (slot : Slot) (s : List ℕ) (step : Step) (width n : ℕ) (t : Taken) → width ≤ length s → Measured slot (drop width s) (Some n) → Told s step width (width + n) t
     → FieldSeen slot s step width t
 unfolding Measured Told FieldSeen
 field-seen slot s step width n t h m k is =
@@ -41,7 +41,7 @@ module _ (table : List Row) (slot_of : ℕ → Slot) (here : Place) (seen s : Li
       f.takes t.1 ∙ ap (step_of table here seen) t.0
 
   -- the first or the last line of a block
-  pub edge-sees : (step : Step) (width : ℕ) (t : Taken) → Fitted table here seen s (Edge step width) → Told s step 0 width t → Sees table slot_of here seen s t
+  pub edge-sees : (step : Step) (width : ℕ) (t : Taken) → Fitted table here seen s (Some (Fit.Edge step width)) → Told s step 0 width t → Sees table slot_of here seen s t
   unfolding Fitted Told Sees
   edge-sees step width t f k is = let (a, b, c, e) = k is in (rw b (omega arith), rw c e, tells a c e)
     where
@@ -57,7 +57,7 @@ module _ (table : List Row) (slot_of : ℕ → Slot) (here : Place) (seen s : Li
           }
 
   -- a field's line
-  pub field-sees : (step : Step) (width : ℕ) (t : Taken) → Fitted table here seen s (Field step width) → FieldSeen (slot_of step.slot) s step width t → Sees table slot_of here seen s t
+  pub field-sees : (step : Step) (width : ℕ) (t : Taken) → Fitted table here seen s (Some (Fit.Field step width)) → FieldSeen (slot_of step.slot) s step width t → Sees table slot_of here seen s t
   unfolding Fitted FieldSeen Sees
   field-sees step width t f k is = let (a, b, c, e, v, q) = k is in (rw b c, e, tells a b c e v q)
     where

@@ -10,6 +10,7 @@ use native.Mathlib.Omega.{arith}
 use lib.Dec.{eqb}
 use lib.ListN.{length, take, drop, get_or, set, replicate, length-set, length-drop}
 use lib.Seq.{take-add}
+use Rattle.std.proofs.Common.{Option, Some, None}
 use Rattle.text.specs.Bytes.{bytes}
 use Rattle.stretches.specs.Stretches.{slot_count}
 use Rattle.lines.specs.Lines.{start_behind}
@@ -18,8 +19,6 @@ use Rattle.layout.specs.Rows.{Row}
 use Rattle.layout.specs.declared.Place.{Place}
 use Rattle.reader.specs.Header.{starts_from, ends_from}
 use Rattle.measure.specs.Measure.{clean_slot, Measured}
-use Rattle.measure.specs.declared.Width.{Width}
-use Rattle.measure.specs.declared.Width.TheVariants.{Is, Not}
 use Rattle.fitting.specs.Fitting.{clean_rows}
 use Rattle.glance.specs.Glance.{Says}
 use Rattle.glance.specs.Steps.{Ended, Sees, HeadSays, Closes, BodyTold, BodySays}
@@ -53,7 +52,7 @@ module _ (slot_of : ℕ → Slot) (header s starts₀ ends₀ : List ℕ) where
   head-begin = record { place = omega arith; count = omega arith; starts-same = refl; ends_same = refl; known = λ c a b. heads-begin slot_of header s starts₀ ends₀ a b }
 
   module _ (starts ends : List ℕ) (at i : ℕ) (k : Head starts ends at i) where
-    pub head-again : (n next : ℕ) → Measured (slot_of (get_or header i 0)) (drop at s) (Is n) → Ended s (at + n) next → i < length header
+    pub head-again : (n next : ℕ) → Measured (slot_of (get_or header i 0)) (drop at s) (Some n) → Ended s (at + n) next → i < length header
         → (starts' ends' : List ℕ) → starts' ≡ set starts (get_or header i 0) (at + length (slot_of (get_or header i 0)).fixed) → ends' ≡ set ends (get_or header i 0) (at + n)
         → Head starts' ends' next (i + 1)
     unfolding Measured
@@ -68,7 +67,7 @@ module _ (slot_of : ℕ → Slot) (header s starts₀ ends₀ : List ℕ) where
               (heads-again slot_of header s starts₀ ends₀ starts ends at i (k.known c x y) n (next - at) k.place f (p (c (get_or header i 0))) more v starts' ends' a b);
         }
 
-    pub head-says : length header ≤ i → HeadSays slot_of header s starts₀ ends₀ starts ends (Is at)
+    pub head-says : length header ≤ i → HeadSays slot_of header s starts₀ ends₀ starts ends (Some at)
     unfolding HeadSays
     head-says h = (k.place, λ c a b y. heads-over slot_of header s starts₀ ends₀ starts ends at i (k.known c a b) h k.count y)
 
@@ -137,10 +136,10 @@ module _ (table : List Row) (slot_of : ℕ → Slot) (s : List ℕ) (from : ℕ)
               );
         }
 
-    pub body-says : (r : Width) → Closes s last stop at r → BodySays table slot_of s from starts₀ ends₀ starts ends r
+    pub body-says : (r : Option ℕ) → Closes s last stop at r → BodySays table slot_of s from starts₀ ends₀ starts ends r
     unfolding Closes BodySays bytes
-    body-says Not d = tt
-    body-says (Is n) (i, short, dash) = (rw i k.behind, rw i k.place, λ r c a b z. told (k.known r c a b z))
+    body-says None d = tt
+    body-says (Some n) (i, short, dash) = (rw i k.behind, rw i k.place, λ r c a b z. told (k.known r c a b z))
       where
         told : Taking.Lines table slot_of s starts₀ ends₀ starts ends seen here at × ((last ≡ stop) ⊎ Last table slot_of s starts₀ ends₀ last stop at) → BodyTold table slot_of s starts₀ ends₀ starts ends n
         told (lines, inl q) =
@@ -152,11 +151,11 @@ module _ (table : List Row) (slot_of : ℕ → Slot) (s : List ℕ) (from : ℕ)
 -- ---- both
 
 module _ (table : List Row) (slot_of : ℕ → Slot) (header s starts₀ ends₀ starts₁ ends₁ starts ends : List ℕ) (from : ℕ)
-    (long : length starts₀ ≡ slot_count) (wide : length ends₀ ≡ slot_count) (head : HeadSays slot_of header s starts₀ ends₀ starts₁ ends₁ (Is from)) where
-  pub says : (r : Width) → BodySays table slot_of s from starts₁ ends₁ starts ends r → Says table slot_of header s starts₀ ends₀ starts ends r
+    (long : length starts₀ ≡ slot_count) (wide : length ends₀ ≡ slot_count) (head : HeadSays slot_of header s starts₀ ends₀ starts₁ ends₁ (Some from)) where
+  pub says : (r : Option ℕ) → BodySays table slot_of s from starts₁ ends₁ starts ends r → Says table slot_of header s starts₀ ends₀ starts ends r
   unfolding HeadSays BodySays Says
-  says Not b = tt
-  says (Is n) (f, h, b) = λ clean.
+  says None b = tt
+  says (Some n) (f, h, b) = λ clean.
       let front = head.1 clean.slots long wide in
       let y : List ℕ = take (n - from) (drop from s) in
       let w : from + (n - from) ≡ n = omega arith in

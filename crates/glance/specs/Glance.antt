@@ -1,6 +1,6 @@
 -- A glance at a text: how many of its first bytes are a message in which 1 to 12 find nothing wrong, and where the values stand in it. What
 -- is said goes one way: where a number is told, it is so; where none is, nothing is said, and the passes have to be run.
-use Rattle.std.specs.Prelude.{ℕ, ◌≤◌, ◌≡◌, true, List, [], ◌∷◌, ◌++◌, length, take, drop}
+use Rattle.std.specs.Prelude.{ℕ, ◌≤◌, ◌≡◌, true, List, [], ◌∷◌, ◌++◌, length, take, drop, Option, Some, None}
 use Rattle.text.specs.Bytes.{bytes}
 use Rattle.lines.specs.Verdicts.{pass}
 use Rattle.lines.specs.Lines.{lines_of, ended}
@@ -9,8 +9,6 @@ use Rattle.layout.specs.Rows.{Row}
 use Rattle.walk.specs.Walk.{walk_of}
 use Rattle.reader.specs.Header.{head_pass, starts_from, ends_from}
 use Rattle.measure.specs.Measure.{clean_slot}
-use Rattle.measure.specs.declared.Width.{Width}
-use Rattle.measure.specs.declared.Width.TheVariants.{Is, Not}
 use Rattle.fitting.specs.Fitting.{clean_rows}
 
 -- what the tables have to be: four lines of header, and texts of 20 to 7E hex
@@ -31,6 +29,6 @@ pub record Glanced (table : List Row) (slot_of : ℕ → Slot) (header s starts�
   pub body : walk_of table slot_of (take n s) (starts_from slot_of (take n s) 0 starts₀ header) (ends_from (take n s) 0 ends₀ header)
       ≡ record { verdict = pass; starts = starts; ends = ends }
 
-unfoldable pub Says : List Row → (ℕ → Slot) → List ℕ → List ℕ → List ℕ → List ℕ → List ℕ → List ℕ → Width → Type 0
-Says table slot_of header s starts₀ ends₀ starts ends (Is n) = Clean table slot_of header → Glanced table slot_of header s starts₀ ends₀ starts ends n
-Says table slot_of header s starts₀ ends₀ starts ends Not = Unit
+unfoldable pub Says : List Row → (ℕ → Slot) → List ℕ → List ℕ → List ℕ → List ℕ → List ℕ → List ℕ → Option ℕ → Type 0
+Says table slot_of header s starts₀ ends₀ starts ends (Some n) = Clean table slot_of header → Glanced table slot_of header s starts₀ ends₀ starts ends n
+Says table slot_of header s starts₀ ends₀ starts ends None = Unit

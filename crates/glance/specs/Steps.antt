@@ -1,5 +1,5 @@
 -- What the steps of a glance tell each other: a step of the code. `s` is the text from where a step looks at it.
-use Rattle.std.specs.Prelude.{ℕ, ◌+◌, ◌-◌, ◌≤◌, ◌<◌, ◌≡◌, true, List, [], ◌∷◌, ◌++◌, length, take, drop}
+use Rattle.std.specs.Prelude.{ℕ, ◌+◌, ◌-◌, ◌≤◌, ◌<◌, ◌≡◌, true, List, [], ◌∷◌, ◌++◌, length, take, drop, Option, Some, None}
 use Rattle.text.specs.Bytes.{bytes}
 use Rattle.text.specs.Classes.{printed}
 use Rattle.stretches.specs.Stretches.{slot_count}
@@ -13,8 +13,6 @@ use Rattle.layout.specs.declared.Step.{Step}
 use Rattle.walk.specs.Walk.{walk_of}
 use Rattle.reader.specs.Header.{head_pass, starts_from, ends_from}
 use Rattle.measure.specs.Measure.{clean_slot}
-use Rattle.measure.specs.declared.Width.{Width}
-use Rattle.measure.specs.declared.Width.TheVariants.{Is, Not}
 use Rattle.fitting.specs.Fitting.{clean_rows, ends_line}
 use Rattle.glance.specs.declared.Taken.{Taken}
 
@@ -27,9 +25,9 @@ pub record Ended (s : List ℕ) (end next : ℕ) : Type 0 where
   pub ends : ends_line (drop end s) ≡ true
   pub is : next ≡ end + ending_width (drop end s)
 
-unfoldable pub Ends : List ℕ → ℕ → Width → Type 0
-Ends s end (Is next) = Ended s end next
-Ends s end Not = Unit
+unfoldable pub Ends : List ℕ → ℕ → Option ℕ → Type 0
+Ends s end (Some next) = Ended s end next
+Ends s end None = Unit
 
 -- a line behind the header is taken by the table, and its value gets 0
 pub record Tells (table : List Row) (slot_of : ℕ → Slot) (here : Place) (seen s : List ℕ) (t : Taken) : Type 0 where
@@ -68,17 +66,17 @@ pub record HeadTold (slot_of : ℕ → Slot) (header s starts₀ ends₀ starts 
   pub starts-long : length starts ≡ slot_count
   pub ends-long : length ends ≡ slot_count
 
-unfoldable pub HeadSays : (ℕ → Slot) → List ℕ → List ℕ → List ℕ → List ℕ → List ℕ → List ℕ → Width → Type 0
-HeadSays slot_of header s starts₀ ends₀ starts ends (Is n) =
+unfoldable pub HeadSays : (ℕ → Slot) → List ℕ → List ℕ → List ℕ → List ℕ → List ℕ → List ℕ → Option ℕ → Type 0
+HeadSays slot_of header s starts₀ ends₀ starts ends (Some n) =
     (n ≤ length s)
     × (((i : ℕ) → clean_slot (slot_of i) ≡ true) → length starts₀ ≡ slot_count → length ends₀ ≡ slot_count
     → (y : List ℕ) → HeadTold slot_of header s starts₀ ends₀ starts ends n y)
-HeadSays slot_of header s starts₀ ends₀ starts ends Not = Unit
+HeadSays slot_of header s starts₀ ends₀ starts ends None = Unit
 
 -- the line that was taken last is `-`, and the message is not too long
-unfoldable pub Closes : List ℕ → ℕ → ℕ → ℕ → Width → Type 0
-Closes s last stop at (Is n) = (n ≡ at) × (n ≤ 4096) × (take (stop - last) (drop last s) ≡ bytes "-")
-Closes s last stop at Not = Unit
+unfoldable pub Closes : List ℕ → ℕ → ℕ → ℕ → Option ℕ → Type 0
+Closes s last stop at (Some n) = (n ≡ at) × (n ≤ 4096) × (take (stop - last) (drop last s) ≡ bytes "-")
+Closes s last stop at None = Unit
 
 -- the lines behind a header are taken with nothing wrong, up to the first n bytes of a text
 pub record BodyTold (table : List Row) (slot_of : ℕ → Slot) (s starts₀ ends₀ starts ends : List ℕ) (n : ℕ) : Type 0 where
@@ -88,9 +86,9 @@ pub record BodyTold (table : List Row) (slot_of : ℕ → Slot) (s starts₀ end
   pub last : drop 4 (lines_of (take n s)) ≡ early ++ bytes "-" ∷ []
   pub body : walk_of table slot_of (take n s) starts₀ ends₀ ≡ record { verdict = pass; starts = starts; ends = ends }
 
-unfoldable pub BodySays : List Row → (ℕ → Slot) → List ℕ → ℕ → List ℕ → List ℕ → List ℕ → List ℕ → Width → Type 0
-BodySays table slot_of s from starts₀ ends₀ starts ends (Is n) =
+unfoldable pub BodySays : List Row → (ℕ → Slot) → List ℕ → ℕ → List ℕ → List ℕ → List ℕ → List ℕ → Option ℕ → Type 0
+BodySays table slot_of s from starts₀ ends₀ starts ends (Some n) =
     (from ≤ n) × (n ≤ length s)
     × (clean_rows table ≡ true → ((i : ℕ) → clean_slot (slot_of i) ≡ true) → length starts₀ ≡ slot_count → length ends₀ ≡ slot_count
     → ((y : List ℕ) → from ≡ start_behind (take from s ++ y) 4) → BodyTold table slot_of s starts₀ ends₀ starts ends n)
-BodySays table slot_of s from starts₀ ends₀ starts ends Not = Unit
+BodySays table slot_of s from starts₀ ends₀ starts ends None = Unit

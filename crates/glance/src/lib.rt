@@ -2,7 +2,7 @@
 // nothing is told of it.
 //
 // Nothing here knows a message type. What is right stands in specs/Glance, and what the steps tell each other in specs/Steps.
-#![tactic(auto)]
+#![tactic(auto, unfolding(crate::specs::Glance::Says, crate::specs::Steps::HeadSays))]
 
 ghost use Rattle.std.specs.Prelude.{◌≡◌, false, ◌≤◌, length};
 ghost use Rattle.layout.specs.Rows.{rows_of};
@@ -12,7 +12,6 @@ ghost use Rattle.glance.specs.Steps.{Ends, Told, FieldSeen, Sees, HeadSays, Clos
 
 use fitting::Fit;
 use layout::{Place, Step};
-use measure::Width;
 
 // The most bytes of a message, and the line that is its last.
 const LONGEST: usize = 4096;
@@ -49,27 +48,27 @@ fn nothing() -> Taken
 }
 
 // Where the next line begins, behind a line whose text ends at a place; not told where no line ending stands there.
-fn behind(text: &[u8], end: usize) -> Width
+fn behind(text: &[u8], end: usize) -> Option<usize>
     ensures { Ends text.now end result }
 {
     if text.len() < end {
-        return Width::Not;
+        return None;
     }
     let over = lines::ending(&text[end..]);
     if over == 0 {
-        return Width::Not;
+        return None;
     }
     if over == lines::NO_ENDING {
-        return Width::Not;
+        return None;
     }
-    Width::Is(end + over)
+    Some(end + over)
 }
 
 // A line whose text ends at a place, and whose value begins at another.
 fn told(text: &[u8], step: Step, value: usize, end: usize) -> Taken
     ensures { Told text.now step value end result }
 {
-    let Width::Is(next) = behind(text, end) else {
+    let Some(next) = behind(text, end) else {
         return nothing();
     };
     Taken {
@@ -88,7 +87,7 @@ fn told_field(text: &[u8], slots: &[u8], step: Step, width: usize) -> Taken
     if text.len() < width {
         return nothing();
     }
-    let Width::Is(n) = measure::value(slots, step.slot, &text[width..]) else {
+    let Some(n) = measure::value(slots, step.slot, &text[width..]) else {
         return nothing();
     };
     told(text, step, width, width + n)
@@ -99,9 +98,9 @@ fn see(text: &[u8], rows: &[u8], slots: &[u8], here: Place, seen: &[u8]) -> Take
     ensures { Sees (rows_of rows.now) (slot_at slots.now) here seen.now text.now result }
 {
     match fitting::row_for(rows, here, seen, text) {
-        Fit::Edge(step, width) => told(text, step, 0, width),
-        Fit::Field(step, width) => told_field(text, slots, step, width),
-        Fit::Not => nothing(),
+        Some(Fit::Edge(step, width)) => told(text, step, 0, width),
+        Some(Fit::Field(step, width)) => told_field(text, slots, step, width),
+        None => nothing(),
     }
 }
 
@@ -112,38 +111,34 @@ fn take_header(
     slots: &[u8],
     starts: &mut [usize],
     ends: &mut [usize],
-) -> Width
+) -> Option<usize>
     ensures { HeadSays (slot_at slots.now) header.now text.now starts.old ends.old starts.new ends.new result }
 {
     let mut at = 0;
     for &slot in header {
         if slot == 0 {
-            return Width::Not;
+            return None;
         }
-        let Width::Is(n) = measure::plain(slots, slot, &text[at..]) else {
-            return Width::Not;
-        };
-        let Width::Is(next) = behind(text, at + n) else {
-            return Width::Not;
-        };
+        let n = measure::plain(slots, slot, &text[at..])?;
+        let next = behind(text, at + n)?;
         walk::keep(slots, starts, ends, slot as usize, at, at + n);
         at = next;
     }
-    Width::Is(at)
+    Some(at)
 }
 
 // The last line, from one place to another, is `-`, and what ends at a place is not too long.
-fn closed(text: &[u8], last: usize, stop: usize, at: usize) -> Width
+fn closed(text: &[u8], last: usize, stop: usize, at: usize) -> Option<usize>
     requires { (last ≤ stop) × (stop ≤ length text.now) }
     ensures { Closes text.now last stop at result }
 {
     if LONGEST < at {
-        return Width::Not;
+        return None;
     }
     if !text::equals(&text[last..stop], &LAST) {
-        return Width::Not;
+        return None;
     }
-    Width::Is(at)
+    Some(at)
 }
 
 // The lines behind the header, up to the table's end.
@@ -154,7 +149,7 @@ fn take_body(
     slots: &[u8],
     starts: &mut [usize],
     ends: &mut [usize],
-) -> Width
+) -> Option<usize>
     requires { from ≤ length text.now }
     ensures { BodySays (rows_of rows.now) (slot_at slots.now) text.now from starts.old ends.old starts.new ends.new result }
 {
@@ -168,7 +163,7 @@ fn take_body(
     while here.row < count {
         let taken = see(&text[at..], rows, slots, here, &seen);
         if !taken.told {
-            return Width::Not;
+            return None;
         }
         let slot = taken.step.slot;
         last = at;
@@ -190,11 +185,9 @@ pub fn glance(
     slots: &[u8],
     starts: &mut [usize; stretches::SLOTS],
     ends: &mut [usize; stretches::SLOTS],
-) -> Width
+) -> Option<usize>
     ensures { Says (rows_of rows.now) (slot_at slots.now) header.now text.now starts.old ends.old starts.new ends.new result }
 {
-    let Width::Is(from) = take_header(text, header, slots, starts, ends) else {
-        return Width::Not;
-    };
+    let from = take_header(text, header, slots, starts, ends)?;
     take_body(text, from, rows, slots, starts, ends)
 }

@@ -4,14 +4,14 @@ ghost use Rattle.text.specs.Texts.{in_form as text_form};
 ghost use Rattle.format.specs.Writable.{hold};
 ghost use Rattle.values.specs.Writable.{period_form, tests, in_form};
 
-use trade::{Party, Period, Trade};
+use trade::{Party, Trade};
 
-fn period_form(period: Period) -> bool
+fn period_form(period: Option<u64>) -> bool
     ensures { result ≡ period_form period }
 {
     match period {
-        Period::Absent => true,
-        Period::Days(days) => days <= 9,
+        None => true,
+        Some(days) => days <= 9,
     }
 }
 

@@ -1,6 +1,6 @@
 -- Document 01, "Kinds" and "B and its neighbours": what each kind must and may not have, par and settlement at their edges, and
 -- which number comes first, in one table.
-use Rattle.std.specs.Prelude.{ℕ, ◌≡◌, List, [], ◌∷◌, map}
+use Rattle.std.specs.Prelude.{ℕ, ◌≡◌, List, [], ◌∷◌, map, Option, Some, None}
 use Prim.Native.String.{String}
 use Rattle.text.specs.Bytes.{bytes}
 use Rattle.text.specs.Texts.{text_of}
@@ -8,13 +8,12 @@ use Rattle.lines.specs.Verdicts.{refused}
 use Rattle.trade.specs.Records.{blank_trade}
 use Rattle.trade.specs.declared.Kind.{Kind}
 use Rattle.typed.specs.declared.Side.{Side}
-use Rattle.trade.specs.declared.Period.{Period}
 use Rattle.trade.specs.declared.Trade.{Trade}
 use Rattle.kinds.specs.Kinds.{kinds_pass}
 
 -- a trade of 20240229 by what the rules look at: kind, side, MAST, PREV, LIST, the buyer's and the seller's contra reference,
 -- DKRS, GUPP, par and settlement
-unfoldable pub trade : Kind → Side → String → String → String → String → String → String → Period → ℕ → ℕ → Trade
+unfoldable pub trade : Kind → Side → String → String → String → String → String → String → Option ℕ → ℕ → ℕ → Trade
 trade kind side mast prev list buyer seller reason period par sett =
     record {
       password = blank_trade.password;
@@ -43,43 +42,43 @@ trade kind side mast prev list buyer seller reason period par sett =
 unfoldable pub cases : List (String × Trade × ℕ)
 cases =
     -- INST: MAST and GUPP alone
-    ("NEWM", trade Kind.Inst Side.Buyi "0017" "" "" "" "" "" Period.Absent 1000000 20240313, 0)
-    ∷ ("NEWM", trade Kind.Inst Side.Sell "0017" "" "" "" "" "" (Period.Days 0) 1000000 20240313, 0)
-    ∷ ("NEWM", trade Kind.Inst Side.Buyi "" "" "" "" "" "" Period.Absent 1000000 20240313, 14)
-    ∷ ("NEWM", trade Kind.Inst Side.Buyi "0017" "R" "" "" "" "" Period.Absent 1000000 20240313, 15)
-    ∷ ("NEWM", trade Kind.Inst Side.Buyi "0017" "" "R" "" "" "" Period.Absent 1000000 20240313, 15)
-    ∷ ("NEWM", trade Kind.Inst Side.Buyi "0017" "" "" "R" "" "" Period.Absent 1000000 20240313, 15)
-    ∷ ("NEWM", trade Kind.Inst Side.Buyi "0017" "" "" "" "R" "" Period.Absent 1000000 20240313, 15)
-    ∷ ("NEWM", trade Kind.Inst Side.Buyi "0017" "" "" "" "" "E004" Period.Absent 1000000 20240313, 15)
+    ("NEWM", trade Kind.Inst Side.Buyi "0017" "" "" "" "" "" None 1000000 20240313, 0)
+    ∷ ("NEWM", trade Kind.Inst Side.Sell "0017" "" "" "" "" "" (Some 0) 1000000 20240313, 0)
+    ∷ ("NEWM", trade Kind.Inst Side.Buyi "" "" "" "" "" "" None 1000000 20240313, 14)
+    ∷ ("NEWM", trade Kind.Inst Side.Buyi "0017" "R" "" "" "" "" None 1000000 20240313, 15)
+    ∷ ("NEWM", trade Kind.Inst Side.Buyi "0017" "" "R" "" "" "" None 1000000 20240313, 15)
+    ∷ ("NEWM", trade Kind.Inst Side.Buyi "0017" "" "" "R" "" "" None 1000000 20240313, 15)
+    ∷ ("NEWM", trade Kind.Inst Side.Buyi "0017" "" "" "" "R" "" None 1000000 20240313, 15)
+    ∷ ("NEWM", trade Kind.Inst Side.Buyi "0017" "" "" "" "" "E004" None 1000000 20240313, 15)
     -- CANC: LIST besides, and 23G CANC; 13 comes before 14
-    ∷ ("CANC", trade Kind.Canc Side.Buyi "0017" "" "R" "" "" "" (Period.Days 9) 1000000 20240313, 0)
-    ∷ ("NEWM", trade Kind.Canc Side.Buyi "0017" "" "" "" "" "" Period.Absent 1000000 20240313, 13)
-    ∷ ("NEWM", trade Kind.Canc Side.Buyi "" "" "" "" "" "" Period.Absent 1000000 20240313, 13)
-    ∷ ("CANC", trade Kind.Canc Side.Buyi "" "" "" "" "" "" Period.Absent 1000000 20240313, 14)
-    ∷ ("CANC", trade Kind.Canc Side.Buyi "0017" "R" "" "" "" "" Period.Absent 1000000 20240313, 15)
-    ∷ ("CANC", trade Kind.Canc Side.Buyi "0017" "" "" "" "" "E004" Period.Absent 1000000 20240313, 15)
+    ∷ ("CANC", trade Kind.Canc Side.Buyi "0017" "" "R" "" "" "" (Some 9) 1000000 20240313, 0)
+    ∷ ("NEWM", trade Kind.Canc Side.Buyi "0017" "" "" "" "" "" None 1000000 20240313, 13)
+    ∷ ("NEWM", trade Kind.Canc Side.Buyi "" "" "" "" "" "" None 1000000 20240313, 13)
+    ∷ ("CANC", trade Kind.Canc Side.Buyi "" "" "" "" "" "" None 1000000 20240313, 14)
+    ∷ ("CANC", trade Kind.Canc Side.Buyi "0017" "R" "" "" "" "" None 1000000 20240313, 15)
+    ∷ ("CANC", trade Kind.Canc Side.Buyi "0017" "" "" "" "" "E004" None 1000000 20240313, 15)
     -- MDFC: PREV and LIST besides
-    ∷ ("NEWM", trade Kind.Mdfc Side.Buyi "0017" "R" "R" "" "" "" (Period.Days 9) 1000000 20240313, 0)
-    ∷ ("CANC", trade Kind.Mdfc Side.Buyi "0017" "" "" "" "" "" Period.Absent 1000000 20240313, 13)
-    ∷ ("NEWM", trade Kind.Mdfc Side.Buyi "" "R" "R" "" "" "" Period.Absent 1000000 20240313, 14)
-    ∷ ("NEWM", trade Kind.Mdfc Side.Buyi "0017" "" "" "" "R" "" Period.Absent 1000000 20240313, 15)
+    ∷ ("NEWM", trade Kind.Mdfc Side.Buyi "0017" "R" "R" "" "" "" (Some 9) 1000000 20240313, 0)
+    ∷ ("CANC", trade Kind.Mdfc Side.Buyi "0017" "" "" "" "" "" None 1000000 20240313, 13)
+    ∷ ("NEWM", trade Kind.Mdfc Side.Buyi "" "R" "R" "" "" "" None 1000000 20240313, 14)
+    ∷ ("NEWM", trade Kind.Mdfc Side.Buyi "0017" "" "" "" "R" "" None 1000000 20240313, 15)
     -- TDDK: DKRS and the contra reference of the other side alone; 14 comes before 15
-    ∷ ("NEWM", trade Kind.Tddk Side.Buyi "" "" "" "" "R" "E004" Period.Absent 1000000 20240313, 0)
-    ∷ ("NEWM", trade Kind.Tddk Side.Sell "" "" "" "R" "" "E004" Period.Absent 1000000 20240313, 0)
-    ∷ ("NEWM", trade Kind.Tddk Side.Buyi "" "" "" "R" "" "E004" Period.Absent 1000000 20240313, 14)
-    ∷ ("NEWM", trade Kind.Tddk Side.Sell "" "" "" "" "R" "E004" Period.Absent 1000000 20240313, 14)
-    ∷ ("NEWM", trade Kind.Tddk Side.Buyi "" "" "" "R" "R" "E004" Period.Absent 1000000 20240313, 15)
-    ∷ ("NEWM", trade Kind.Tddk Side.Buyi "" "" "" "" "R" "" Period.Absent 1000000 20240313, 14)
-    ∷ ("NEWM", trade Kind.Tddk Side.Buyi "0017" "" "" "" "R" "E004" Period.Absent 1000000 20240313, 15)
-    ∷ ("NEWM", trade Kind.Tddk Side.Buyi "" "R" "" "" "R" "E004" Period.Absent 1000000 20240313, 15)
-    ∷ ("NEWM", trade Kind.Tddk Side.Buyi "" "" "R" "" "R" "E004" Period.Absent 1000000 20240313, 15)
-    ∷ ("NEWM", trade Kind.Tddk Side.Buyi "" "" "" "" "R" "E004" (Period.Days 0) 1000000 20240313, 15)
+    ∷ ("NEWM", trade Kind.Tddk Side.Buyi "" "" "" "" "R" "E004" None 1000000 20240313, 0)
+    ∷ ("NEWM", trade Kind.Tddk Side.Sell "" "" "" "R" "" "E004" None 1000000 20240313, 0)
+    ∷ ("NEWM", trade Kind.Tddk Side.Buyi "" "" "" "R" "" "E004" None 1000000 20240313, 14)
+    ∷ ("NEWM", trade Kind.Tddk Side.Sell "" "" "" "" "R" "E004" None 1000000 20240313, 14)
+    ∷ ("NEWM", trade Kind.Tddk Side.Buyi "" "" "" "R" "R" "E004" None 1000000 20240313, 15)
+    ∷ ("NEWM", trade Kind.Tddk Side.Buyi "" "" "" "" "R" "" None 1000000 20240313, 14)
+    ∷ ("NEWM", trade Kind.Tddk Side.Buyi "0017" "" "" "" "R" "E004" None 1000000 20240313, 15)
+    ∷ ("NEWM", trade Kind.Tddk Side.Buyi "" "R" "" "" "R" "E004" None 1000000 20240313, 15)
+    ∷ ("NEWM", trade Kind.Tddk Side.Buyi "" "" "R" "" "R" "E004" None 1000000 20240313, 15)
+    ∷ ("NEWM", trade Kind.Tddk Side.Buyi "" "" "" "" "R" "E004" (Some 0) 1000000 20240313, 15)
     -- par and settlement
-    ∷ ("NEWM", trade Kind.Inst Side.Buyi "0017" "" "" "" "" "" Period.Absent 0 20240313, 16)
-    ∷ ("NEWM", trade Kind.Inst Side.Buyi "0017" "" "" "" "" "" Period.Absent 1 20240229, 0)
-    ∷ ("NEWM", trade Kind.Inst Side.Buyi "0017" "" "" "" "" "" Period.Absent 1 20240228, 17)
-    ∷ ("NEWM", trade Kind.Inst Side.Buyi "0017" "" "" "" "" "" Period.Absent 0 20240228, 16)
-    ∷ ("NEWM", trade Kind.Inst Side.Buyi "" "" "" "" "" "" Period.Absent 0 20240228, 14)
+    ∷ ("NEWM", trade Kind.Inst Side.Buyi "0017" "" "" "" "" "" None 0 20240313, 16)
+    ∷ ("NEWM", trade Kind.Inst Side.Buyi "0017" "" "" "" "" "" None 1 20240229, 0)
+    ∷ ("NEWM", trade Kind.Inst Side.Buyi "0017" "" "" "" "" "" None 1 20240228, 17)
+    ∷ ("NEWM", trade Kind.Inst Side.Buyi "0017" "" "" "" "" "" None 0 20240228, 16)
+    ∷ ("NEWM", trade Kind.Inst Side.Buyi "" "" "" "" "" "" None 0 20240228, 14)
     ∷ []
 
 -- each trade gets the number beside it, and line 0

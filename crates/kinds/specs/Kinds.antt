@@ -4,7 +4,7 @@
 --   15  a field that the kind may not have
 --   16  par zero
 --   17  settles before the trade date
-use Rattle.std.specs.Prelude.{ℕ, Bool, true, false, ◌||◌, not, List, ltb, eqb}
+use Rattle.std.specs.Prelude.{ℕ, Bool, ◌||◌, not, List, ltb, eqb, Option, is_some}
 use Rattle.text.specs.Bytes.{bytes, same}
 use Rattle.text.specs.declared.Text.{Text}
 use Rattle.calendar.specs.Dates.{earlier}
@@ -12,7 +12,6 @@ use Rattle.lines.specs.Verdicts.{then, when}
 use Rattle.lines.specs.declared.Verdict.{Verdict}
 use Rattle.trade.specs.declared.Kind.{Kind}
 use Rattle.typed.specs.declared.Side.{Side}
-use Rattle.trade.specs.declared.Period.{Period}
 use Rattle.trade.specs.declared.Party.{Party}
 use Rattle.trade.specs.declared.Trade.{Trade}
 
@@ -20,9 +19,8 @@ use Rattle.trade.specs.declared.Trade.{Trade}
 abbrev pub present : Text → Bool
 present t = ltb 0 t.len
 
-abbrev pub has_days : Period → Bool
-has_days Period.Absent = false
-has_days (Period.Days n) = true
+abbrev pub has_days : Option ℕ → Bool
+has_days period = is_some period
 
 -- the party of the other side is the seller where the sender buys
 unfoldable pub other : Trade → Side → Party

@@ -7,11 +7,11 @@
 ghost use Rattle.std.specs.Prelude.{◌≡◌};
 ghost use Rattle.text.specs.Bytes.{same};
 ghost use Rattle.lines.specs.Verdicts.{refused};
-ghost use Rattle.kinds.specs.Kinds.{present, has_days, contra, stray, function_of, lacks_field, tddk_only, tddk_never, has_forbidden, record_pass, kinds_pass};
+ghost use Rattle.kinds.specs.Kinds.{present, contra, stray, function_of, lacks_field, tddk_only, tddk_never, has_forbidden, record_pass, kinds_pass};
 
 use lines::Verdict;
 use text::Text;
-use trade::{Kind, Period, Trade};
+use trade::{Kind, Trade};
 use typed::Side;
 
 fn refused(number: u64) -> Verdict
@@ -24,16 +24,6 @@ fn present(text: Text) -> bool
     ensures { result ≡ present text }
 {
     0 < text.len
-}
-
-// A period of 0 days is there.
-fn has_days(period: Period) -> bool
-    ensures { result ≡ has_days period }
-{
-    match period {
-        Period::Absent => false,
-        Period::Days(_) => true,
-    }
 }
 
 // A contra reference stands in the block of the other side.
@@ -106,8 +96,8 @@ fn tddk_never(trade: Trade) -> bool
     let prev = present(trade.prev);
     let list = present(trade.list);
     let stray = stray(trade);
-    let period = trade.period;
-    let days = has_days(period);
+    // A period of 0 days is there.
+    let days = trade.period.is_some();
     mast | (prev | (list | (stray | days)))
 }
 

@@ -11,6 +11,7 @@ use lib.Dec.{ltb}
 use lib.ListN.{length, take, drop, get_or, length-drop}
 use lib.Seq.{length-take-le, take-suc, take-add, take_at, drop_at, append_snoc}
 use borrow.Author.Tests.{le-leb, lt-ltb, ltb-true}
+use Rattle.std.proofs.Common.{Option, Some, None}
 use Rattle.text.specs.Bytes.{begins, same}
 use Rattle.text.specs.Classes.{in_class, all_in, is_code, printed, printed_class}
 use Rattle.text.specs.declared.Class.{Class}
@@ -25,8 +26,6 @@ use Rattle.forms.specs.Slots.{words_in, form_of, slot_at}
 use Rattle.forms.proofs.Parts.{line-from, fixed-part, form-is}
 use Rattle.forms.proofs.Printing.{printed_form, form-printed}
 use Rattle.measure.specs.Measure.{clean_form, clean_slot, FormMeasured, Measured, slot_in, FixedMeasured}
-use Rattle.measure.specs.declared.Width.{Width}
-use Rattle.measure.specs.declared.Width.TheVariants.{Is, Not}
 
 -- one byte more at the front
 pub front-more : (k : Class) (s : List ℕ) (i : ℕ) → i < length s → all_in k (take i s) ≡ true → in_class k (get_or s i 0) ≡ true → all_in k (take (i + 1) s) ≡ true
@@ -37,24 +36,24 @@ front-more k s i h e b =
 -- ---- the forms
 
 -- what gets 0 in a form is printable where the form is clean
-told : (f : Form) (s : List ℕ) (n : ℕ) → (clean_form f ≡ true → printed_form f ≡ true) → n ≤ length s → form_number f (take n s) ≡ 0 → FormMeasured f s (Is n)
+told : (f : Form) (s : List ℕ) (n : ℕ) → (clean_form f ≡ true → printed_form f ≡ true) → n ≤ length s → form_number f (take n s) ≡ 0 → FormMeasured f s (Some n)
 unfolding FormMeasured
 told f s n p h e = (h, e, λ c. form-printed f (take n s) (p c) e)
 
-pub nothing-told : (s : List ℕ) → FormMeasured nothing s (Is 0)
+pub nothing-told : (s : List ℕ) → FormMeasured nothing s (Some 0)
 unfolding form_number unless printed_form
 nothing-told s = told nothing s 0 (λ c. refl) (omega arith) refl
 
 pub characters-told : (k : Class) (least most : ℕ) (s : List ℕ) (n : ℕ) → n ≤ length s → all_in k (take n s) ≡ true → least ≤ n → n ≤ most
-    → FormMeasured (characters k least most) s (Is n)
+    → FormMeasured (characters k least most) s (Some n)
 unfolding form_number unless clean_form printed_form
 characters-told k least most s n h e l m =
     told (characters k least most) s n (λ c. c) h (rw (length-take-le n s h, le-leb least n l, le-leb n most m, e))
 
-pub code-told : (least most : ℕ) (s : List ℕ) (w : Width) → FormMeasured (characters C least most) s w → FormMeasured (codes least most) s w
+pub code-told : (least most : ℕ) (s : List ℕ) (w : Option ℕ) → FormMeasured (characters C least most) s w → FormMeasured (codes least most) s w
 unfolding FormMeasured form_number clean_form printed_class is_code
-code-told least most s (Is n) m = m
-code-told least most s Not m = m
+code-told least most s (Some n) m = m
+code-told least most s None m = m
 
 -- a word that stands among some words is one of them
 held : (k : ℕ) (ws us : List (List ℕ)) (w : List ℕ) → drop k ws ≡ w ∷ us → is_word ws w ≡ true
@@ -68,7 +67,7 @@ held (suc k) (x ∷ ws) us w e = go (held k ws us w e) (same x w)
     go ih false = let h : word_at ws w < length ws = ltb-true (word_at ws w) (length ws) ih in lt-ltb (suc (word_at ws w)) (suc (length ws)) (omega arith)
 
 pub word-told : (t : List ℕ) (first count k : ℕ) (w s : List ℕ) → k < count → w ≡ (slot_at t (first + k)).fixed → begins w s ≡ true
-    → FormMeasured (words (words_in t first count)) s (Is (length w))
+    → FormMeasured (words (words_in t first count)) s (Some (length w))
 unfolding form_number unless clean_form printed_form
 word-told t first count k w s h f b =
     let e : take (length w) s ≡ w = ap (take (length w)) (begins-is w s b) ∙ take_at w _ (length w) refl in
@@ -81,7 +80,7 @@ module _ (s : List ℕ) (whole tail : ℕ) (comma : get_or s whole 0 ≡ 44) (h 
       ∙ rw (add-one whole, take-suc s whole 0 h, comma) (append_snoc (take whole s) 44 (take tail (drop (suc whole) s)))
 
   pub amount-told : (r : List ℕ) → r ≡ drop (whole + 1) s → 1 ≤ whole → whole + tail ≤ 14 → all_in Digit (take whole s) ≡ true
-      → tail ≤ length r → all_in Digit (take tail r) ≡ true → FormMeasured amount s (Is (whole + 1 + tail))
+      → tail ≤ length r → all_in Digit (take tail r) ≡ true → FormMeasured amount s (Some (whole + 1 + tail))
   unfolding form_number amount_read printed_form
   amount-told r e some short wholes t rests =
       let d : length r ≡ length s - (whole + 1) = ap length e ∙ length-drop (whole + 1) s in
@@ -92,19 +91,19 @@ module _ (s : List ℕ) (whole tail : ℕ) (comma : get_or s whole 0 ≡ 44) (h 
       in told amount s (whole + 1 + tail) (λ c. refl) (omega arith) (rw (amount-parts, ← e, is))
 
 -- dates, moments and narratives are judged as they stand
-pub date-told : (s : List ℕ) (n : ℕ) → n ≤ length s → form_number date (take n s) ≡ 0 → FormMeasured date s (Is n)
+pub date-told : (s : List ℕ) (n : ℕ) → n ≤ length s → form_number date (take n s) ≡ 0 → FormMeasured date s (Some n)
 unfolding printed_form
 date-told s n = told date s n (λ c. refl)
 
-pub moment-told : (s : List ℕ) (n : ℕ) → n ≤ length s → form_number moment (take n s) ≡ 0 → FormMeasured moment s (Is n)
+pub moment-told : (s : List ℕ) (n : ℕ) → n ≤ length s → form_number moment (take n s) ≡ 0 → FormMeasured moment s (Some n)
 unfolding printed_form
 moment-told s n = told moment s n (λ c. refl)
 
-pub narrative-told : (s : List ℕ) (n : ℕ) → n ≤ length s → is_narrative (take n s) ≡ true → FormMeasured narrative s (Is n)
+pub narrative-told : (s : List ℕ) (n : ℕ) → n ≤ length s → is_narrative (take n s) ≡ true → FormMeasured narrative s (Some n)
 unfolding form_number unless printed_form
 narrative-told s n h e = told narrative s n (λ c. refl) h (rw e)
 
-pub pool-told : (s : List ℕ) (n : ℕ) → n ≤ length s → form_number pool_narrative (take n s) ≡ 0 → FormMeasured pool_narrative s (Is n)
+pub pool-told : (s : List ℕ) (n : ℕ) → n ≤ length s → form_number pool_narrative (take n s) ≡ 0 → FormMeasured pool_narrative s (Some n)
 unfolding printed_form
 pool-told s n = told pool_narrative s n (λ c. refl)
 
@@ -112,7 +111,7 @@ pool-told s n = told pool_narrative s n (λ c. refl)
 
 -- the fixed text of a slot and a part of its form behind it
 value-told : (slot : Slot) (s : List ℕ) (len n : ℕ) → length slot.fixed ≡ len → begins slot.fixed s ≡ true
-    → FormMeasured slot.form (drop len s) (Is n) → Measured slot s (Is (len + n))
+    → FormMeasured slot.form (drop len s) (Some n) → Measured slot s (Some (len + n))
 unfolding FormMeasured Measured value_number clean_slot
 value-told slot s len n l b m =
     let f : List ℕ = slot.fixed in
@@ -127,7 +126,7 @@ value-told slot s len n l b m =
     )
 
 -- the same by a line's bytes, where its fixed text was told
-module _ (t s v : List ℕ) (len : ℕ) (l : length s ≡ 20) (f : FixedMeasured s v (Is len)) where
+module _ (t s v : List ℕ) (len : ℕ) (l : length s ≡ 20) (f : FixedMeasured s v (Some len)) where
   told-len : (len ≡ get_or s 3 0) × (len ≤ 16) × (begins (take len (drop 4 s)) v ≡ true)
   unfolding FixedMeasured
   told-len = f
@@ -152,11 +151,11 @@ module _ (t s v : List ℕ) (len : ℕ) (l : length s ≡ 20) (f : FixedMeasured
   line-within = let e = fixed-long in let w = begins-length (slot_in t s).fixed v fixed-begins in omega arith
 
   pub line-told : (n : ℕ) (r : List ℕ) → r ≡ drop len v
-      → FormMeasured (form_of t (get_or s 0 0) (get_or s 1 0) (get_or s 2 0)) r (Is n) → Measured (slot_in t s) v (Is (len + n))
+      → FormMeasured (form_of t (get_or s 0 0) (get_or s 1 0) (get_or s 2 0)) r (Some n) → Measured (slot_in t s) v (Some (len + n))
   unfolding slot_in
   line-told n r e m = value-told (slot_in t s) v len n fixed-long fixed-begins (rw e at m)
 
-pub told-within : (slot : Slot) (s : List ℕ) (n : ℕ) → Measured slot s (Is n) → n ≤ length s
+pub told-within : (slot : Slot) (s : List ℕ) (n : ℕ) → Measured slot s (Some n) → n ≤ length s
 unfolding Measured
 told-within slot s n m = m.0
 

@@ -7,6 +7,7 @@ use mathlib.Core.Bool.{true, false, true≢false}
 use mathlib.Core.List.{List, [], ◌∷◌, ◌++◌}
 use native.Mathlib.Omega.{arith}
 use lib.ListN.{length, length-append}
+use Rattle.std.proofs.Common.{Option, Some, None}
 use Rattle.text.specs.Bytes.{bytes}
 use Rattle.text.specs.declared.Text.{Text}
 use Rattle.text.proofs.Bools.{or_left, or_right}
@@ -25,7 +26,6 @@ use Rattle.format.proofs.Lengths.{wide, bytes_of, within, capped, Capped, capped
 use Rattle.trade.specs.declared.Kind.{Kind}
 use Rattle.typed.specs.declared.Side.{Side}
 use Rattle.trade.specs.declared.Service.{Service}
-use Rattle.trade.specs.declared.Period.{Period}
 use Rattle.trade.specs.declared.Trade.{Trade}
 use Rattle.kinds.specs.Kinds.{present, has_days, other, own, contra, stray, tddk_only, tddk_never, has_forbidden}
 use Rattle.kinds.proofs.Laws.{passes}
@@ -72,16 +72,16 @@ widest-is t Kind.Tddk Side.Sell = refl
 
 -- ---- what is not there has no bytes
 
-no-period : (period : Period) → has_days period ≡ false → length (period_text period) ≤ 0
+no-period : (period : Option ℕ) → has_days period ≡ false → length (period_text period) ≤ 0
 unfolding period_text
-no-period Period.Absent e = omega arith
-no-period (Period.Days n) e = absurd (true≢false e)
+no-period None e = omega arith
+no-period (Some n) e = absurd (true≢false e)
 
 no-dkrs : (reason : Text) → present reason ≡ false → length (reason_text reason) ≤ 0
 no-dkrs reason e = rw (no-reason reason e) (omega arith)
 
 -- the narrative, by what it has of GUPP and DKRS
-told-most : (service : Service) (period : Period) (reason : Text) (p r : ℕ) → length (period_text period) ≤ p → length (reason_text reason) ≤ r
+told-most : (service : Service) (period : Option ℕ) (reason : Text) (p r : ℕ) → length (period_text period) ≤ p → length (reason_text reason) ≤ r
     → length (narrative service period reason) ≤ 9 + (p + r)
 told-most service period reason p r h k =
     let w = bytes "/TDSV" ++ service_word service in

@@ -1,7 +1,7 @@
 -- Document 01, "Plain form, and the record" and "Order in writing": the lines of B's record, which are B's with the buyer's
 -- block first and tidied amounts; the lines of an MDFC that has every field at its widest, whose message has 822 bytes, the
 -- longest there is; and what is answered at the edges of the room and for a record that may not be written.
-use Rattle.std.specs.Prelude.{ℕ, ◌≡◌, List, [], ◌∷◌, map}
+use Rattle.std.specs.Prelude.{ℕ, ◌≡◌, List, [], ◌∷◌, map, Some}
 use Prim.Native.String.{String}
 use Rattle.text.specs.Bytes.{bytes}
 use Rattle.text.specs.Texts.{text_of}
@@ -10,7 +10,6 @@ use Rattle.trade.specs.Records.{blank_trade}
 use Rattle.trade.specs.declared.Kind.{Kind}
 use Rattle.typed.specs.declared.Side.{Side}
 use Rattle.trade.specs.declared.Service.{Service}
-use Rattle.trade.specs.declared.Period.{Period}
 use Rattle.trade.specs.declared.Party.{Party}
 use Rattle.trade.specs.declared.Trade.{Trade}
 use Rattle.values.specs.Cases.{b}
@@ -44,7 +43,7 @@ broadest =
       cusip = text "01F070633";
       pool = text "POOL00009";
       service = Service.Stip;
-      period = Period.Days 0;
+      period = Some 0;
       reason = text "";
     }
 

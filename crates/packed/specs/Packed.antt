@@ -4,14 +4,13 @@
 --   7 of 8 bytes       the numbers, the least byte first
 -- What is too great for its place is the most that the place holds. No record that may be written has such a field, and none that has
 -- one comes back as a record that may be written (unpacked's specs/Back).
-use Rattle.std.specs.Prelude.{ℕ, zero, suc, ◌+◌, ◌*◌, ◌/◌, ◌%◌, cond, leb}
+use Rattle.std.specs.Prelude.{ℕ, zero, suc, ◌+◌, ◌*◌, ◌/◌, ◌%◌, cond, leb, Option, Some, None}
 use mathlib.Core.List.{List, [], ◌∷◌, ◌++◌, map, flatten}
 use Rattle.text.specs.declared.Text.{Text}
 use Rattle.calendar.specs.declared.Moment.{Moment}
 use Rattle.trade.specs.declared.Kind.{Kind}
 use Rattle.typed.specs.declared.Side.{Side}
 use Rattle.trade.specs.declared.Service.{Service}
-use Rattle.trade.specs.declared.Period.{Period}
 use Rattle.trade.specs.declared.Trade.{Trade}
 
 unfoldable pub at_most : ℕ → ℕ → ℕ
@@ -34,9 +33,9 @@ service_byte Service.Sbod = 0
 service_byte Service.Tftd = 1
 service_byte Service.Stip = 2
 
-unfoldable pub period_byte : Period → ℕ
-period_byte Period.Absent = 255
-period_byte (Period.Days n) = at_most 254 n
+unfoldable pub period_byte : Option ℕ → ℕ
+period_byte None = 255
+period_byte (Some n) = at_most 254 n
 
 unfoldable pub codes : Trade → List ℕ
 codes t = kind_byte t.kind ∷ side_byte t.side ∷ service_byte t.service ∷ period_byte t.period ∷ []

@@ -2,7 +2,7 @@
 ghost use Rattle.std.specs.Prelude.{◌≡◌};
 ghost use Rattle.packed.specs.Packed.{at_most, kind_byte, side_byte, service_byte, period_byte, codes};
 
-use trade::{Kind, Period, Service, Trade};
+use trade::{Kind, Service, Trade};
 use typed::Side;
 
 // A number that is too great for its place is the most that the place holds.
@@ -42,12 +42,12 @@ fn service_byte(service: Service) -> u8
     }
 }
 
-fn period_byte(period: Period) -> u8
+fn period_byte(period: Option<u64>) -> u8
     ensures { result ≡ period_byte period }
 {
     match period {
-        Period::Absent => 255,
-        Period::Days(days) => at_most(254, days) as u8,
+        None => 255,
+        Some(days) => at_most(254, days) as u8,
     }
 }
 

@@ -1,24 +1,24 @@
 -- Request A1, "P, and worked cases": P's record and records that differ from it in a field or two, with the number that each gets.
-use Rattle.std.specs.Prelude.{ℕ, ◌≡◌, Bool, true, false, List, [], ◌∷◌, map}
+use Rattle.std.specs.Prelude.{ℕ, ◌≡◌, Bool, true, false, List, [], ◌∷◌, map, Option, Some, None}
 use Prim.Native.String.{String}
 use Rattle.text.specs.Bytes.{bytes}
 use Rattle.text.specs.Texts.{text_of}
-use Rattle.typed.specs.declared.Payment.{Payment}
+use Rattle.amount.specs.declared.Money.{Money}
 use Rattle.pool_trade.specs.Records.{blank_trade}
 use Rattle.pool_trade.specs.declared.Kind.{Kind}
-use Rattle.pool_trade.specs.declared.Delivery.{Delivery}
+use Rattle.calendar.specs.declared.Date.{Date}
 use Rattle.pool_trade.specs.declared.PoolTrade.{PoolTrade}
 use Rattle.pool_values.specs.Cases.{p}
 use Rattle.pool_judge.specs.Judging.{judge_of}
 
-abbrev usd : ℕ → ℕ → Payment
-usd number decimals = Payment.Of (record { 0 = record { number = number; decimals = decimals } })
+abbrev usd : ℕ → ℕ → Option Money
+usd number decimals = Some (record { 0 = record { number = number; decimals = decimals } })
 
-abbrev on : ℕ → Delivery
-on date = Delivery.On (record { 0 = date })
+abbrev on : ℕ → Option Date
+on date = Some (record { 0 = date })
 
 -- P's record with another kind, MAST, PREV, money, par, CDRY, DDTE and DKRS
-unfoldable pub trade : Kind → String → String → Payment → ℕ → Bool → Delivery → String → PoolTrade
+unfoldable pub trade : Kind → String → String → Option Money → ℕ → Bool → Option Date → String → PoolTrade
 trade kind mast prev money par cdr delivery reason =
     record {
       kind = kind;
@@ -48,13 +48,13 @@ cases =
     (p, 0)
     ∷ (blank_trade, 18)
     -- the money is absent or in its shortest form, and may be zero
-    ∷ (trade Kind.Inst "0017" "" Payment.Absent 1 true (on 20240313) "", 0)
+    ∷ (trade Kind.Inst "0017" "" None 1 true (on 20240313) "", 0)
     ∷ (trade Kind.Inst "0017" "" (usd 0 0) 1 true (on 20240313) "", 0)
     ∷ (trade Kind.Inst "0017" "" (usd 10 1) 1 true (on 20240313) "", 18)
     ∷ (trade Kind.Inst "0017" "" (usd 99999999999999 13) 1 true (on 20240313) "", 0)
     ∷ (trade Kind.Inst "0017" "" (usd 100000000000000 0) 1 true (on 20240313) "", 18)
     -- DDTE is absent or a date
-    ∷ (trade Kind.Inst "0017" "" (usd 0 0) 1 true Delivery.Absent "", 0)
+    ∷ (trade Kind.Inst "0017" "" (usd 0 0) 1 true None "", 0)
     ∷ (trade Kind.Inst "0017" "" (usd 0 0) 1 true (on 20230229) "", 18)
     ∷ (trade Kind.Inst "0017" "" (usd 0 0) 1 true (on 0) "", 18)
     ∷ (trade Kind.Inst "0017" "" (usd 0 0) 1 true (on 10101) "", 0)

@@ -4,14 +4,15 @@ ghost use Rattle.text.specs.Texts.{in_form as text_form};
 ghost use Rattle.format.specs.Writable.{hold};
 ghost use Rattle.pool_values.specs.Writable.{delivery_form, tests, in_form};
 
-use pool_trade::{Delivery, Party, PoolTrade};
+use calendar::Date;
+use pool_trade::{Party, PoolTrade};
 
-fn delivery_form(delivery: Delivery) -> bool
+fn delivery_form(delivery: Option<Date>) -> bool
     ensures { result ≡ delivery_form delivery }
 {
     match delivery {
-        Delivery::Absent => true,
-        Delivery::On(date) => date.in_form(),
+        None => true,
+        Some(date) => date.in_form(),
     }
 }
 

@@ -96,14 +96,10 @@ fn there(trade: PoolTrade) -> [bool; 7]
 fn some_of(letter: u8, is: bool, letters: [u8; 7], there: [bool; 7]) -> bool
     ensures { result ≡ some_of letter is letters there }
 {
-    let mut i = 0;
-    while i < 7 {
-        if (letters[i] == letter) & (there[i] == is) {
-            return true;
-        }
-        i += 1;
-    }
-    false
+    letters
+        .iter()
+        .zip(there.iter())
+        .any(|(own, has)| *own == letter && *has == is)
 }
 
 // 14 to 17, which a record shows by itself.

@@ -1,17 +1,15 @@
 -- Request A1, "P, and worked cases" and "Longest message": the lines of P's record, which are P's with the buyer's block first and tidied
 -- amounts; for each kind a record with every field at its widest, and how long its message is; and what is answered at the edges of the
 -- room.
-use Rattle.std.specs.Prelude.{ℕ, ◌≡◌, Bool, true, false, List, [], ◌∷◌, map, length}
+use Rattle.std.specs.Prelude.{ℕ, ◌≡◌, Bool, true, false, List, [], ◌∷◌, map, length, Some}
 use Prim.Native.String.{String}
 use Rattle.text.specs.Bytes.{bytes}
 use Rattle.text.specs.Texts.{text_of}
 use Rattle.text.specs.declared.Text.{Text}
-use Rattle.typed.specs.declared.Payment.{Payment}
 use Rattle.typed.specs.declared.Side.{Side}
 use Rattle.format.specs.Writing.{lines_for, message_of, judge_of, write_number, write_length}
 use Rattle.pool_trade.specs.Records.{blank_trade}
 use Rattle.pool_trade.specs.declared.Kind.{Kind}
-use Rattle.pool_trade.specs.declared.Delivery.{Delivery}
 use Rattle.pool_trade.specs.declared.Party.{Party}
 use Rattle.pool_trade.specs.declared.PoolTrade.{PoolTrade}
 use Rattle.pool_values.specs.Pool.{pool}
@@ -37,7 +35,7 @@ broad kind mast prev list contra cdr reason =
       trad = record { date = record { 0 = 20240229 }; time = record { 0 = 93000 } };
       sett = record { 0 = 20240313 };
       price = record { 0 = record { number = 99999999999999; decimals = 13 } };
-      money = Payment.Of (record { 0 = record { number = 99999999999999; decimals = 13 } });
+      money = Some (record { 0 = record { number = 99999999999999; decimals = 13 } });
       side = Side.Buyi;
       buyer = party "0017" "";
       seller = party "0015" contra;
@@ -45,7 +43,7 @@ broad kind mast prev list contra cdr reason =
       cusip = text "01F070633";
       pool = text "POOL00009";
       cdr = cdr;
-      delivery = Delivery.On (record { 0 = 20240313 });
+      delivery = Some (record { 0 = 20240313 });
       reason = text reason;
     }
 

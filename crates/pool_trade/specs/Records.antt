@@ -1,5 +1,5 @@
 -- Request A1, "Record": a pool trade as it is held, from the values of its slots; and the blank record.
-use Rattle.std.specs.Prelude.{ℕ, false, List, [], ◌∷◌, get_or}
+use Rattle.std.specs.Prelude.{ℕ, false, List, [], ◌∷◌, get_or, None}
 use Rattle.text.specs.Bytes.{bytes}
 use Rattle.text.specs.Texts.{text_of, blank}
 use Rattle.amount.specs.Amounts.{amount_read, nought}
@@ -9,11 +9,9 @@ use Rattle.forms.specs.Pool.{has_cdr}
 use Rattle.typed.specs.Typed.{amount_or0, date_or0, moment_or0}
 use Rattle.typed.specs.Payments.{payment_in}
 use Rattle.typed.specs.Sides.{side_in}
-use Rattle.typed.specs.declared.Payment.{Payment}
 use Rattle.typed.specs.declared.Side.{Side}
 use Rattle.pool_trade.specs.Narrative.{delivery_of, reason_of}
 use Rattle.pool_trade.specs.declared.Kind.{Kind}
-use Rattle.pool_trade.specs.declared.Delivery.{Delivery}
 use Rattle.pool_trade.specs.declared.Party.{Party}
 use Rattle.pool_trade.specs.declared.PoolTrade.{PoolTrade}
 
@@ -83,7 +81,7 @@ blank_trade =
       trad = record { date = record { 0 = 0 }; time = record { 0 = 0 } };
       sett = record { 0 = 0 };
       price = record { 0 = nought };
-      money = Payment.Absent;
+      money = None;
       side = Side.Buyi;
       buyer = nobody;
       seller = nobody;
@@ -91,6 +89,6 @@ blank_trade =
       cusip = blank;
       pool = blank;
       cdr = false;
-      delivery = Delivery.Absent;
+      delivery = None;
       reason = blank;
     }

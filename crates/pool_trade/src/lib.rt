@@ -11,10 +11,10 @@ ghost use Rattle.stretches.specs.Stretches.{stretch_of};
 ghost use Rattle.pool_trade.specs.Records.{party_of, trade_of, blank_trade};
 ghost use Rattle.pool_trade.specs.Parts.{details_of, security_of};
 
-use amount::{Par, Price};
+use amount::{Money, Par, Price};
 use calendar::{Date, Moment, Time};
 use text::Text;
-use typed::{Payment, Side};
+use typed::Side;
 
 // The slots that are named; the others have the numbers of the fields, of which the narrative is the last.
 pub const NARRATIVE: usize = 19;
@@ -34,13 +34,6 @@ pub enum Kind {
     Cdrl,
 }
 
-// The delivery date of the pool, DDTE.
-#[derive(Clone, Copy)]
-pub enum Delivery {
-    Absent,
-    On(Date),
-}
-
 // A party: its member code and the contra reference.
 #[derive(Clone, Copy)]
 pub struct Party {
@@ -48,7 +41,7 @@ pub struct Party {
     pub reference: Text,
 }
 
-// `cdr`: the pool has a CDR status, which CDRY says.
+// `cdr`: the pool has a CDR status, which CDRY says. `delivery`: the delivery date of the pool, DDTE.
 #[derive(Clone, Copy)]
 pub struct PoolTrade {
     pub kind: Kind,
@@ -61,7 +54,7 @@ pub struct PoolTrade {
     pub trad: Moment,
     pub sett: Date,
     pub price: Price,
-    pub money: Payment,
+    pub money: Option<Money>,
     pub side: Side,
     pub buyer: Party,
     pub seller: Party,
@@ -69,7 +62,7 @@ pub struct PoolTrade {
     pub cusip: Text,
     pub pool: Text,
     pub cdr: bool,
-    pub delivery: Delivery,
+    pub delivery: Option<Date>,
     pub reason: Text,
 }
 
@@ -79,7 +72,7 @@ struct Details {
     trad: Moment,
     sett: Date,
     price: Price,
-    money: Payment,
+    money: Option<Money>,
     side: Side,
     kind: Kind,
 }
@@ -91,7 +84,7 @@ struct Security {
     cusip: Text,
     pool: Text,
     cdr: bool,
-    delivery: Delivery,
+    delivery: Option<Date>,
     reason: Text,
 }
 
@@ -118,7 +111,7 @@ pub fn blank() -> PoolTrade
         },
         sett: Date(0),
         price: Price::ZERO,
-        money: Payment::Absent,
+        money: None,
         side: Side::Buyi,
         buyer: nobody,
         seller: nobody,
@@ -126,7 +119,7 @@ pub fn blank() -> PoolTrade
         cusip: none,
         pool: none,
         cdr: false,
-        delivery: Delivery::Absent,
+        delivery: None,
         reason: none,
     }
 }

@@ -2,20 +2,16 @@
 ghost use Rattle.std.specs.Prelude.{◌≡◌};
 ghost use Rattle.pool_trade.specs.Narrative.{delivery_of, reason_of};
 
-use super::Delivery;
-use calendar::{Date, DateRead};
+use calendar::Date;
 use text::Text;
 
-pub(crate) fn delivery_of(value: &[u8]) -> Delivery
+pub(crate) fn delivery_of(value: &[u8]) -> Option<Date>
     ensures { result ≡ delivery_of value.now }
 {
     if !forms::pool::has_delivery(value) {
-        return Delivery::Absent;
+        return None;
     }
-    match Date::read(forms::pool::delivery_in(value)) {
-        DateRead::Good(date) => Delivery::On(date),
-        DateRead::Wrong => Delivery::On(Date(0)),
-    }
+    Some(Date::read(forms::pool::delivery_in(value)).unwrap_or(Date(0)))
 }
 
 pub(crate) fn reason_of(value: &[u8]) -> Text

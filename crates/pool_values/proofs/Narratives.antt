@@ -9,6 +9,7 @@ use mathlib.Core.Logic.{◌⊎◌, inl, inr}
 use native.Mathlib.Omega.{arith}
 use lib.Dec.{ltb}
 use lib.ListN.{length, length-append}
+use Rattle.std.proofs.Common.{Option, Some, None}
 use Rattle.text.specs.Bytes.{bytes}
 use Rattle.text.specs.declared.Text.{Text}
 use Rattle.calendar.specs.Dates.{date_read, date_number, date_text}
@@ -21,45 +22,45 @@ use Rattle.typed.specs.Typed.{date_or0}
 use Rattle.typed.proofs.Laws.{date-held}
 use Rattle.typed.proofs.Widths.{date-most}
 use Rattle.pool_trade.specs.Narrative.{delivery_of, reason_of}
-use Rattle.pool_trade.specs.declared.Delivery.{Delivery}
+use Rattle.calendar.specs.declared.Date.{Date}
 use Rattle.pool_values.specs.Values.{cdr_text, delivery_text, narrative}
 use Rattle.pool_values.specs.Writable.{delivery_form}
 
 -- ---- what is written means its parts
 
-pub record Told (cdr : Bool) (delivery : Delivery) (reason : Text) (v : List ℕ) : Type 0 where
+pub record Told (cdr : Bool) (delivery : Option Date) (reason : Text) (v : List ℕ) : Type 0 where
   pub number : pool_number v ≡ 0
   pub cdr-of : has_cdr v ≡ cdr
   pub delivery-of : delivery_of v ≡ delivery
   pub reason-of : reason_of v ≡ reason
 
 -- whether there is a date, and its digits
-abbrev dated : Delivery → Bool
-dated Delivery.Absent = false
-dated (Delivery.On date) = true
+abbrev dated : Option Date → Bool
+dated None = false
+dated (Some date) = true
 
-abbrev date_of : Delivery → List ℕ
-date_of Delivery.Absent = []
-date_of (Delivery.On date) = date_text date
+abbrev date_of : Option Date → List ℕ
+date_of None = []
+date_of (Some date) = date_text date
 
-days : (delivery : Delivery) → delivery_form delivery ≡ true → dated delivery ≡ true → date_number (date_read (date_of delivery)) ≡ 0
+days : (delivery : Option Date) → delivery_form delivery ≡ true → dated delivery ≡ true → date_number (date_read (date_of delivery)) ≡ 0
 unfolding delivery_form
-days Delivery.Absent f h = absurd (true≢false (sym h))
-days (Delivery.On date) f h = ap date_number (date-round date f)
+days None f h = absurd (true≢false (sym h))
+days (Some date) f h = ap date_number (date-round date f)
 
-narrative-made : (cdr : Bool) (delivery : Delivery) (reason : Text) → narrative cdr delivery reason ≡ made cdr (dated delivery) (date_of delivery) (reason_text reason)
+narrative-made : (cdr : Bool) (delivery : Option Date) (reason : Text) → narrative cdr delivery reason ≡ made cdr (dated delivery) (date_of delivery) (reason_text reason)
 unfolding narrative cdr_text delivery_text
-narrative-made cdr Delivery.Absent reason = refl
-narrative-made cdr (Delivery.On date) reason = refl
+narrative-made cdr None reason = refl
+narrative-made cdr (Some date) reason = refl
 
 module _ (cdr : Bool) (rest : List ℕ) (good : good_reason rest ≡ true) where
-  made_told : (delivery : Delivery) → delivery_form delivery ≡ true → delivery_of (made cdr (dated delivery) (date_of delivery) rest) ≡ delivery
+  made_told : (delivery : Option Date) → delivery_form delivery ≡ true → delivery_of (made cdr (dated delivery) (date_of delivery) rest) ≡ delivery
   unfolding delivery_of delivery_form
-  made_told Delivery.Absent f = rw (made-delivery cdr false [] rest good)
-  made_told (Delivery.On date) f =
-      rw (made-delivery cdr true (date_text date) rest good, made-date cdr true (date_text date) rest good (days (Delivery.On date) f) refl, date-round date f)
+  made_told None f = rw (made-delivery cdr false [] rest good)
+  made_told (Some date) f =
+      rw (made-delivery cdr true (date_text date) rest good, made-date cdr true (date_text date) rest good (days (Some date) f) refl, date-round date f)
 
-module _ (cdr : Bool) (delivery : Delivery) (reason : Text) (goodd : delivery_form delivery ≡ true) (goodr : reason_form reason ≡ true) where
+module _ (cdr : Bool) (delivery : Option Date) (reason : Text) (goodd : delivery_form delivery ≡ true) (goodr : reason_form reason ≡ true) where
   pub told-parts : Told cdr delivery reason (narrative cdr delivery reason)
   unfolding reason_of
   told-parts =
@@ -80,8 +81,8 @@ module _ (v : List ℕ) (is : pool_number v ≡ 0) where
   delivery-told = go (has_delivery v) refl
     where
       go : (b : Bool) → has_delivery v ≡ b
-          → (cond b (bytes "/DDTE" ++ delivery_in v) [] ≡ delivery_text (cond b (Delivery.On (date_or0 (date_read (delivery_in v)))) Delivery.Absent))
-          × (delivery_form (cond b (Delivery.On (date_or0 (date_read (delivery_in v)))) Delivery.Absent) ≡ true)
+          → (cond b (bytes "/DDTE" ++ delivery_in v) [] ≡ delivery_text (cond b (Some (date_or0 (date_read (delivery_in v)))) None))
+          × (delivery_form (cond b (Some (date_or0 (date_read (delivery_in v)))) None) ≡ true)
       go true h = let d = date-held (delivery_in v) (delivery-good v is h) in (ap (λ (l : List ℕ). bytes "/DDTE" ++ l) (sym d.1), d.0)
       go false h = (refl, refl)
 
@@ -102,12 +103,12 @@ unfolding cdr_text bytes
 cdr-short true = omega arith
 cdr-short false = omega arith
 
-pub delivery-short : (delivery : Delivery) → length (delivery_text delivery) ≤ 13
+pub delivery-short : (delivery : Option Date) → length (delivery_text delivery) ≤ 13
 unfolding delivery_text bytes
-delivery-short Delivery.Absent = omega arith
-delivery-short (Delivery.On date) = let d = date-most date in omega arith
+delivery-short None = omega arith
+delivery-short (Some date) = let d = date-most date in omega arith
 
-module _ (cdr : Bool) (delivery : Delivery) (reason : Text) where
+module _ (cdr : Bool) (delivery : Option Date) (reason : Text) where
   pub narrative-length : length (narrative cdr delivery reason) ≡ 9 + (length (cdr_text cdr) + (length (delivery_text delivery) + length (reason_text reason)))
   unfolding narrative bytes
   narrative-length =

@@ -1,13 +1,11 @@
 -- Request A1, "P, and worked cases": P's record and an MDFC that has every field that it may, with what each has for every slot.
 use Prim.Native.String.{String}
-use Rattle.std.specs.Prelude.{◌≡◌, true, List, [], ◌∷◌, map}
+use Rattle.std.specs.Prelude.{◌≡◌, true, List, [], ◌∷◌, map, Some}
 use Rattle.text.specs.Bytes.{bytes}
 use Rattle.text.specs.Texts.{text_of}
 use Rattle.text.specs.declared.Text.{Text}
-use Rattle.typed.specs.declared.Payment.{Payment}
 use Rattle.typed.specs.declared.Side.{Side}
 use Rattle.pool_trade.specs.declared.Kind.{Kind}
-use Rattle.pool_trade.specs.declared.Delivery.{Delivery}
 use Rattle.pool_trade.specs.declared.PoolTrade.{PoolTrade}
 use Rattle.pool_values.specs.Values.{values}
 
@@ -27,7 +25,7 @@ p =
       trad = record { date = record { 0 = 20240229 }; time = record { 0 = 0 } };
       sett = record { 0 = 20240313 };
       price = record { 0 = record { number = 995; decimals = 1 } };
-      money = Payment.Of (record { 0 = record { number = 0; decimals = 0 } });
+      money = Some (record { 0 = record { number = 0; decimals = 0 } });
       side = Side.Buyi;
       buyer = record { code = text "0017"; reference = text "" };
       seller = record { code = text "0015"; reference = text "" };
@@ -35,7 +33,7 @@ p =
       cusip = text "01F070633";
       pool = text "123456";
       cdr = true;
-      delivery = Delivery.On (record { 0 = 20240313 });
+      delivery = Some (record { 0 = 20240313 });
       reason = text "";
     }
 
@@ -52,7 +50,7 @@ full =
       trad = record { date = record { 0 = 20240229 }; time = record { 0 = 235959 } };
       sett = record { 0 = 99991231 };
       price = record { 0 = record { number = 1; decimals = 13 } };
-      money = Payment.Of (record { 0 = record { number = 99999999999999; decimals = 13 } });
+      money = Some (record { 0 = record { number = 99999999999999; decimals = 13 } });
       side = Side.Sell;
       buyer = record { code = text "0015"; reference = text "" };
       seller = record { code = text "0017"; reference = text "" };
@@ -60,7 +58,7 @@ full =
       cusip = text "01F070633";
       pool = text "POOL00009";
       cdr = true;
-      delivery = Delivery.On (record { 0 = 10101 });
+      delivery = Some (record { 0 = 10101 });
       reason = text "";
     }
 

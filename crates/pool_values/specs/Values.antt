@@ -1,6 +1,6 @@
 -- Request A1, "Slots, in order" and "Record": the value that a record has for each slot, as it stands behind the slot's fixed text; nothing
 -- where the record has none.
-use Rattle.std.specs.Prelude.{ℕ, Bool, cond, List, [], ◌∷◌, ◌++◌, get_or}
+use Rattle.std.specs.Prelude.{ℕ, Bool, cond, List, [], ◌∷◌, ◌++◌, get_or, Option, Some, None}
 use Rattle.text.specs.Bytes.{bytes}
 use Rattle.text.specs.Texts.{contents}
 use Rattle.text.specs.declared.Text.{Text}
@@ -12,7 +12,7 @@ use Rattle.typed.specs.Payments.{payment_text}
 use Rattle.typed.specs.Sides.{side_word}
 use Rattle.pool_trade.specs.Records.{kinds}
 use Rattle.pool_trade.specs.declared.Kind.{Kind}
-use Rattle.pool_trade.specs.declared.Delivery.{Delivery}
+use Rattle.calendar.specs.declared.Date.{Date}
 use Rattle.pool_trade.specs.declared.PoolTrade.{PoolTrade}
 use Rattle.pool_kinds.specs.Kinds.{function_of}
 
@@ -31,11 +31,11 @@ kind_word Kind.Cdrl = word kinds 5
 unfoldable pub cdr_text : Bool → List ℕ
 cdr_text cdr = cond cdr (bytes "/CDRY") []
 
-unfoldable pub delivery_text : Delivery → List ℕ
-delivery_text Delivery.Absent = []
-delivery_text (Delivery.On date) = bytes "/DDTE" ++ date_text date
+unfoldable pub delivery_text : Option Date → List ℕ
+delivery_text None = []
+delivery_text (Some date) = bytes "/DDTE" ++ date_text date
 
-unfoldable pub narrative : Bool → Delivery → Text → List ℕ
+unfoldable pub narrative : Bool → Option Date → Text → List ℕ
 narrative cdr delivery reason = bytes "/TDSVPOOL" ++ (cdr_text cdr ++ (delivery_text delivery ++ reason_text reason))
 
 -- ---- the value of each slot, numbered as the table numbers its fields. What is absent has no bytes

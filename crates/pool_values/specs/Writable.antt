@@ -1,5 +1,5 @@
 -- Request A1, "Record", number 18: a record field is outside its slot's values or the forms of the record.
-use Rattle.std.specs.Prelude.{ℕ, Bool, true, ◌&&◌, List, [], ◌∷◌}
+use Rattle.std.specs.Prelude.{ℕ, Bool, true, ◌&&◌, List, [], ◌∷◌, Option, Some, None}
 use Rattle.text.specs.declared.Text.{Text}
 use Rattle.amount.specs.Amounts.{in_form as amount_form}
 use Rattle.calendar.specs.Dates.{is_date, is_moment}
@@ -8,15 +8,15 @@ use Rattle.typed.specs.Payments.{payment_form}
 use Rattle.format.specs.Writable as AnyType
 use Rattle.format.specs.Writable.{hold}
 use Rattle.pool_trade.specs.Records.{password_slot, sender_slot}
-use Rattle.pool_trade.specs.declared.Delivery.{Delivery}
+use Rattle.calendar.specs.declared.Date.{Date}
 use Rattle.pool_trade.specs.declared.PoolTrade.{PoolTrade}
 use Rattle.pool_table.specs.Table.{slot_of}
 use Rattle.pool_table.specs.Tree.{tree}
 
 -- DDTE is absent or a date
-unfoldable pub delivery_form : Delivery → Bool
-delivery_form Delivery.Absent = true
-delivery_form (Delivery.On date) = is_date date.0
+unfoldable pub delivery_form : Option Date → Bool
+delivery_form None = true
+delivery_form (Some date) = is_date date.0
 
 -- ---- one test for each slot, in their order. What the layout makes mandatory must be there; what is optional may be of length
 -- 0. Code words are always words of their lists, and 23G is not held

@@ -3,7 +3,7 @@ ghost use Rattle.std.specs.Prelude.{◌≡◌, ◌+◌, ◌≤◌, length};
 ghost use Rattle.text.specs.Copy.{placed, after};
 ghost use Rattle.pool_values.specs.Values.{cdr_text, delivery_text, narrative};
 
-use pool_trade::Delivery;
+use calendar::Date;
 use text::Text;
 
 // `/CDRY`; nothing where the pool has no CDR status.
@@ -17,13 +17,13 @@ fn put_cdr(line: &mut [u8], at: usize, cdr: bool) -> usize
 }
 
 // `/DDTE` and the date; nothing where there is none.
-fn put_delivery(line: &mut [u8], at: usize, delivery: Delivery) -> usize
+fn put_delivery(line: &mut [u8], at: usize, delivery: Option<Date>) -> usize
     requires { at + 13 ≤ length line.old }
     ensures { (result ≡ after line.old at (delivery_text delivery)) × (line.new ≡ placed line.old at (delivery_text delivery)) }
 {
     match delivery {
-        Delivery::Absent => text::put(line, at, b""),
-        Delivery::On(date) => {
+        None => text::put(line, at, b""),
+        Some(date) => {
             let next = text::put(line, at, b"/DDTE");
             date.put(line, next)
         }
@@ -35,7 +35,7 @@ pub(crate) fn put_narrative(
     buf: &mut [u8],
     at: usize,
     cdr: bool,
-    delivery: Delivery,
+    delivery: Option<Date>,
     reason: Text,
 ) -> usize
     ensures { (result ≡ after buf.old at (narrative cdr delivery reason)) × (buf.new ≡ placed buf.old at (narrative cdr delivery reason)) × (length (narrative cdr delivery reason) ≤ 52) }

@@ -14,7 +14,6 @@ ghost use Rattle.reading.specs.Reading.{refusal, judged, front_of};
 
 use format::Reading;
 use lines::Verdict;
-use measure::Width;
 use message_type::MessageType;
 use walk::Body;
 
@@ -38,7 +37,7 @@ fn at_a_look<T: MessageType>(
     text: &[u8],
     starts: &mut [usize; stretches::SLOTS],
     ends: &mut [usize; stretches::SLOTS],
-) -> Width
+) -> Option<usize>
     ensures { Says (table_of T.shape.tree) T.shape.slot_of T.shape.header text.now starts.old ends.old starts.new ends.new result }
 {
     glance::glance(text, T::header(), T::rows(), T::slots(), starts, ends)
@@ -83,7 +82,7 @@ fn take<T: MessageType>(
     requires { (starts.old ≡ replicate slot_count 0) × (ends.old ≡ replicate slot_count 0) }
     ensures { record { verdict = result; starts = starts.new; ends = ends.new } ≡ taken (of T.shape) message.now }
 {
-    if let Width::Is(n) = at_a_look::<T>(message, starts, ends) {
+    if let Some(n) = at_a_look::<T>(message, starts, ends) {
         if n == message.len() {
             return Verdict::PASS;
         }
@@ -128,7 +127,7 @@ pub fn read_front<T: MessageType>(text: &[u8]) -> Front<T::Record>
 {
     let mut starts = [0usize; stretches::SLOTS];
     let mut ends = [0usize; stretches::SLOTS];
-    if let Width::Is(n) = at_a_look::<T>(text, &mut starts, &mut ends) {
+    if let Some(n) = at_a_look::<T>(text, &mut starts, &mut ends) {
         return Front {
             reading: judge::<T>(&text[..n], &starts, &ends),
             length: n,

@@ -1,17 +1,16 @@
 -- Document 01, the value of 70E: the period that a narrative means. GUPP 0 is present.
 use Prim.Native.String.{String}
-use Rattle.std.specs.Prelude.{◌≡◌, List, [], ◌∷◌, map}
+use Rattle.std.specs.Prelude.{ℕ, ◌≡◌, List, [], ◌∷◌, map, Option, Some, None}
 use Rattle.text.specs.Bytes.{bytes}
 use Rattle.trade.specs.Narrative.{period_of}
-use Rattle.trade.specs.declared.Period.{Period}
 
 -- a narrative, and the period that it means
-unfoldable pub periods : List (String × Period)
+unfoldable pub periods : List (String × Option ℕ)
 periods =
-    ("/TDSVSTIP", Period.Absent)
-    ∷ ("/TDSVSBOD/GUPP0", Period.Days 0)
-    ∷ ("/TDSVTFTD/DKRSE004", Period.Absent)
-    ∷ ("/TDSVSBOD/GUPP9/DKRSE004", Period.Days 9)
+    ("/TDSVSTIP", None)
+    ∷ ("/TDSVSBOD/GUPP0", Some 0)
+    ∷ ("/TDSVTFTD/DKRSE004", None)
+    ∷ ("/TDSVSBOD/GUPP9/DKRSE004", Some 9)
     ∷ []
 
 -- each text gets what stands beside it

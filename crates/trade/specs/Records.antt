@@ -1,15 +1,10 @@
 -- Document 01, "Plain form, and the record": a trade as it is held, from the values of its slots; and the blank record.
-use Rattle.std.specs.Prelude.{ℕ, List, [], ◌∷◌, get_or}
+use Rattle.std.specs.Prelude.{ℕ, List, [], ◌∷◌, get_or, None}
 use Rattle.text.specs.Bytes.{bytes}
 use Rattle.text.specs.Texts.{text_of, blank}
 use Rattle.amount.specs.Amounts.{amount_read, nought}
-use Rattle.amount.specs.declared.Amount.{Amount}
-use Rattle.amount.specs.declared.AmountRead.{AmountRead}
 use Rattle.calendar.specs.Dates.{date_read, moment_read}
-use Rattle.calendar.specs.declared.Date.{Date}
 use Rattle.calendar.specs.declared.Moment.{Moment}
-use Rattle.calendar.specs.declared.DateRead.{DateRead}
-use Rattle.calendar.specs.declared.MomentRead.{MomentRead}
 use Rattle.forms.specs.Forms.{word_at}
 use Rattle.typed.specs.Typed.{amount_or0, date_or0, moment_or0}
 use Rattle.typed.specs.Sides.{side_in}
@@ -19,7 +14,6 @@ use Rattle.reason.specs.Reason.{reason_in}
 use Rattle.trade.specs.Narrative.{service_of, period_of}
 use Rattle.trade.specs.declared.Kind.{Kind}
 use Rattle.trade.specs.declared.Service.{Service}
-use Rattle.trade.specs.declared.Period.{Period}
 use Rattle.trade.specs.declared.Party.{Party}
 use Rattle.trade.specs.declared.Trade.{Trade}
 
@@ -101,6 +95,6 @@ blank_trade =
       cusip = blank;
       pool = blank;
       service = Service.Sbod;
-      period = Period.Absent;
+      period = None;
       reason = blank;
     }

@@ -40,13 +40,6 @@ pub enum Service {
     Stip,
 }
 
-// The give-up period; 0 days is a period.
-#[derive(Clone, Copy)]
-pub enum Period {
-    Absent,
-    Days(u64),
-}
-
 // A party: its member code, the contra reference and the trader's identifier.
 #[derive(Clone, Copy)]
 pub struct Party {
@@ -55,6 +48,7 @@ pub struct Party {
     pub trader: Text,
 }
 
+// `period`: the days of the give-up period; 0 days is a period.
 #[derive(Clone, Copy)]
 pub struct Trade {
     pub password: Text,
@@ -75,7 +69,7 @@ pub struct Trade {
     pub cusip: Text,
     pub pool: Text,
     pub service: Service,
-    pub period: Period,
+    pub period: Option<u64>,
     pub reason: Text,
 }
 
@@ -96,7 +90,7 @@ struct Security {
     cusip: Text,
     pool: Text,
     service: Service,
-    period: Period,
+    period: Option<u64>,
     reason: Text,
 }
 
@@ -133,7 +127,7 @@ pub fn blank() -> Trade
         cusip: none,
         pool: none,
         service: Service::Sbod,
-        period: Period::Absent,
+        period: None,
         reason: none,
     }
 }

@@ -5,7 +5,7 @@ ghost use Rattle.reason.specs.Reason.{reason_in};
 ghost use Rattle.forms.specs.Narrative.{behind_period};
 ghost use Rattle.trade.specs.Narrative.{service_of, period_of};
 
-use super::{Period, Service};
+use super::Service;
 use text::Text;
 
 pub(crate) fn service_of(value: &[u8]) -> Service
@@ -18,17 +18,17 @@ pub(crate) fn service_of(value: &[u8]) -> Service
     }
 }
 
-pub(crate) fn period_of(value: &[u8]) -> Period
+pub(crate) fn period_of(value: &[u8]) -> Option<u64>
     ensures { result ≡ period_of value.now }
 {
     if !forms::narrative::has_period(value) {
-        return Period::Absent;
+        return None;
     }
     let digit = forms::narrative::period_in(value);
     if digit <= b'0' {
-        return Period::Days(0);
+        return Some(0);
     }
-    Period::Days((digit - b'0') as u64)
+    Some(u64::from(digit - b'0'))
 }
 
 pub(crate) fn reason_of(value: &[u8]) -> Text

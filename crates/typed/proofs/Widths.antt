@@ -6,7 +6,7 @@ use mathlib.Core.Bool.{Bool, true, false, cond}
 use mathlib.Core.List.{List, []}
 use native.Mathlib.Omega.{arith}
 use lib.ListN.{length}
-use Rattle.text.specs.Bytes.{bytes}
+use Rattle.std.proofs.Common.{Option, Some, None}
 use Rattle.digits.specs.Numerals.{digits}
 use Rattle.digits.proofs.Laws.{length_digits}
 use Rattle.amount.specs.Amounts.{in_form as amount_form, amount_text}
@@ -16,9 +16,8 @@ use Rattle.amount.proofs.Noughts.{text-none}
 use Rattle.calendar.specs.Dates.{is_date, is_moment, date_text, moment_text}
 use Rattle.calendar.specs.declared.Date.{Date}
 use Rattle.calendar.specs.declared.Moment.{Moment}
-use Rattle.typed.specs.declared.Side.{Side}
 use Rattle.typed.specs.Payments.{payment_text}
-use Rattle.typed.specs.declared.Payment.{Payment}
+use Rattle.amount.specs.declared.Money.{Money}
 
 pub moment-most : (m : Moment) → length (moment_text m) ≤ 14
 unfolding moment_text
@@ -43,10 +42,10 @@ amount-most a = go (amount_form a) refl
     go true e = written-length a e
     go false e = let l = ap length (text-none a e) in omega arith
 
-pub payment-most : (p : Payment) → length (payment_text p) ≤ 15
+pub payment-most : (p : Option Money) → length (payment_text p) ≤ 15
 unfolding payment_text
-payment-most Payment.Absent = omega arith
-payment-most (Payment.Of m) = amount-most m.0
+payment-most None = omega arith
+payment-most (Some m) = amount-most m.0
 
 -- ---- code words
 

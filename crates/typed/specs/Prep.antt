@@ -1,5 +1,5 @@
 -- A moment of a record that need not be there, as PREP.
-use Rattle.std.specs.Prelude.{ℕ, Bool, ◌&&◌, ◌||◌, eqb}
+use Rattle.std.specs.Prelude.{Bool, ◌&&◌, ◌||◌, eqb}
 use Rattle.calendar.specs.Dates.{is_moment}
 use Rattle.calendar.specs.declared.Moment.{Moment}
 

@@ -16,8 +16,8 @@ ghost use Rattle.typed.specs.Typed.{amount_or0, date_or0, moment_or0};
 ghost use Rattle.typed.specs.Payments.{payment_in};
 ghost use Rattle.typed.specs.Prep.{prep_form};
 
-use amount::{Amount, AmountRead, Money};
-use calendar::{Date, DateRead, Moment, MomentRead, Time};
+use amount::{Amount, Money};
+use calendar::{Date, Moment, Time};
 use text::Text;
 
 // Whether the sender buys or sells.
@@ -25,13 +25,6 @@ use text::Text;
 pub enum Side {
     Buyi,
     Sell,
-}
-
-// A sum of money that need not be there; a sum of zero is there.
-#[derive(Clone, Copy)]
-pub enum Payment {
-    Absent,
-    Of(Money),
 }
 
 // A text.
@@ -55,13 +48,10 @@ pub fn moment_at<'a, 'b>(
 ) -> Moment
     ensures { result ≡ moment_or0 (moment_read (stretch_of message.now starts.now ends.now slot)) }
 {
-    match Moment::read(stretches::stretch(message, starts, ends, slot)) {
-        MomentRead::Good(moment) => moment,
-        MomentRead::Wrong => Moment {
-            date: Date(0),
-            time: Time(0),
-        },
-    }
+    Moment::read(stretches::stretch(message, starts, ends, slot)).unwrap_or(Moment {
+        date: Date(0),
+        time: Time(0),
+    })
 }
 
 // A date; 0 where the value is none.
@@ -73,10 +63,7 @@ pub fn date_at<'a, 'b>(
 ) -> Date
     ensures { result ≡ date_or0 (date_read (stretch_of message.now starts.now ends.now slot)) }
 {
-    match Date::read(stretches::stretch(message, starts, ends, slot)) {
-        DateRead::Good(date) => date,
-        DateRead::Wrong => Date(0),
-    }
+    Date::read(stretches::stretch(message, starts, ends, slot)).unwrap_or(Date(0))
 }
 
 // An amount; zero where the value is none.
@@ -88,26 +75,23 @@ pub fn amount_at<'a, 'b>(
 ) -> Amount
     ensures { result ≡ amount_or0 (amount_read (stretch_of message.now starts.now ends.now slot)) }
 {
-    match Amount::read(stretches::stretch(message, starts, ends, slot)) {
-        AmountRead::Good(amount) => amount,
-        AmountRead::Wrong => Amount::ZERO,
-    }
+    Amount::read(stretches::stretch(message, starts, ends, slot)).unwrap_or(Amount::ZERO)
 }
 
-// A payment; absent where there is no value, and a sum of zero where the value is none.
+// A payment, a sum of money that need not be there; a sum of zero is there. Absent where there is no value, and a sum of zero where the value is none.
 pub fn payment_at<'a, 'b>(
     message: &'a [u8],
     starts: &'b [usize],
     ends: &'b [usize],
     slot: usize,
-) -> Payment
+) -> Option<Money>
     ensures { result ≡ payment_in (stretch_of message.now starts.now ends.now slot) }
 {
     let value = stretches::stretch(message, starts, ends, slot);
     if value.len() == 0 {
-        return Payment::Absent;
+        return None;
     }
-    Payment::Of(Money::of(amount_at(message, starts, ends, slot)))
+    Some(Money::of(amount_at(message, starts, ends, slot)))
 }
 
 // A moment of a record that need not be there is in form: absent is date 0 and time 0, and nothing else.

@@ -3,24 +3,22 @@ ghost use Rattle.std.specs.Prelude.{◌≡◌, ◌≤◌, length};
 ghost use Rattle.text.specs.Copy.{placed, after};
 ghost use Rattle.typed.specs.Payments.{payment_text, payment_form};
 
-use super::Payment;
+use amount::Money;
 
 // A payment is absent, or an amount in form.
-pub fn payment_form(payment: Payment) -> bool
+#[tactic(auto, unfolding(crate::specs::Payments::payment_form))]
+pub fn payment_form(payment: Option<Money>) -> bool
     ensures { result ≡ payment_form payment }
 {
-    match payment {
-        Payment::Absent => true,
-        Payment::Of(money) => money.0.in_form(),
-    }
+    payment.is_none_or(|money| money.0.in_form())
 }
 
 // Puts the text of a payment, as `text::put` puts a part; one that is absent has none.
-pub fn put_payment(buf: &mut [u8], at: usize, payment: Payment) -> usize
+pub fn put_payment(buf: &mut [u8], at: usize, payment: Option<Money>) -> usize
     ensures { (result ≡ after buf.old at (payment_text payment)) × (buf.new ≡ placed buf.old at (payment_text payment)) × (length (payment_text payment) ≤ 15) }
 {
     match payment {
-        Payment::Absent => text::put(buf, at, b""),
-        Payment::Of(money) => money.0.put(buf, at),
+        None => text::put(buf, at, b""),
+        Some(money) => money.0.put(buf, at),
     }
 }

@@ -9,6 +9,7 @@ use lib.Dec.{leb, ltb, eqb}
 use lib.ListN.{length, take, drop, get_or, length-drop, drop_of_length-le}
 use lib.Seq.{drop_at, drop-drop, length-take-le}
 use borrow.Author.Tests.{leb-true, le-leb, ltb-true, eqb-true, eqb-false, eq-eqb, ne_eqb}
+use Rattle.std.proofs.Common.{Option, Some, None}
 use Rattle.text.specs.Bytes.{parts}
 use Rattle.text.specs.Texts.{in_form as text_form}
 use Rattle.text.specs.declared.Text.{Text}
@@ -22,7 +23,6 @@ use Rattle.trade.specs.Records.{blank_trade}
 use Rattle.trade.specs.declared.Kind.{Kind}
 use Rattle.typed.specs.declared.Side.{Side}
 use Rattle.trade.specs.declared.Service.{Service}
-use Rattle.trade.specs.declared.Period.{Period}
 use Rattle.trade.specs.declared.Trade.{Trade}
 use Rattle.format.specs.Writable.{hold}
 use Rattle.table.specs.Table.{slot_of}
@@ -65,10 +65,10 @@ service-back Service.Sbod = (refl, refl)
 service-back Service.Tftd = (refl, refl)
 service-back Service.Stip = (refl, refl)
 
-period-back : (p : Period) → period_fits p ≡ true → period_from (period_byte p) ≡ p
+period-back : (p : Option ℕ) → period_fits p ≡ true → period_from (period_byte p) ≡ p
 unfolding period_fits period_from period_byte
-period-back Period.Absent e = refl
-period-back (Period.Days n) e =
+period-back None e = refl
+period-back (Some n) e =
     let h = leb-true n 254 e in
     rw (at_most_in 254 n h, ne_eqb n 255 (λ z. let w : ⊥ = omega arith in w))
 
@@ -97,7 +97,7 @@ period-again : (b : ℕ) → b ≤ 255 → period_byte (period_from b) ≡ b
 unfolding period_from period_byte
 period-again b h = go (eqb b 255) refl
   where
-    go : (t : Bool) → eqb b 255 ≡ t → period_byte (cond t Period.Absent (Period.Days b)) ≡ b
+    go : (t : Bool) → eqb b 255 ≡ t → period_byte (cond t None (Some b)) ≡ b
     go true e = sym (eqb-true b 255 e)
     go false e = let n = eqb-false b 255 e in at_most_in 254 b (omega (arith, n))
 
@@ -283,10 +283,10 @@ date-fits : (n : ℕ) → is_date n ≡ true → number_fits n ≡ true
 unfolding number_fits
 date-fits n e = let h = date-small n e in le-leb n 18446744073709551615 (omega arith)
 
-period-fits : (p : Period) → period_form p ≡ true → period_fits p ≡ true
+period-fits : (p : Option ℕ) → period_form p ≡ true → period_fits p ≡ true
 unfolding period_form period_fits
-period-fits Period.Absent e = refl
-period-fits (Period.Days n) e = let h = leb-true n 9 e in le-leb n 254 (omega arith)
+period-fits None e = refl
+period-fits (Some n) e = let h = leb-true n 9 e in le-leb n 254 (omega arith)
 
 module _ (t : Trade) (e : in_form t ≡ true) where
   form-texts : hold (map text_fits (texts t)) ≡ true

@@ -7,6 +7,7 @@ use mathlib.Core.List.{List, [], ◌∷◌, map}
 use native.Mathlib.Omega.{arith}
 use lib.Dec.{leb, eqb}
 use borrow.Author.Tests.{leb-true, leb-false, le-leb, eqb-true}
+use Rattle.std.proofs.Common.{Option, Some, None}
 use Rattle.text.specs.Texts.{in_form as text_form}
 use Rattle.text.specs.declared.Text.{Text}
 use Rattle.text.proofs.Bools.{or_case}
@@ -15,7 +16,6 @@ use Rattle.calendar.specs.Dates.{is_date, is_time, is_moment, moment_of}
 use Rattle.calendar.specs.declared.Moment.{Moment}
 use Rattle.calendar.proofs.Laws.{date-small, time-small}
 use Rattle.trade.specs.declared.Party.{Party}
-use Rattle.trade.specs.declared.Period.{Period}
 use Rattle.trade.specs.declared.Trade.{Trade}
 use Rattle.format.specs.Writable.{hold}
 use Rattle.table.specs.Table.{slot_of}
@@ -40,9 +40,9 @@ use Rattle.unpacked.proofs.Back.{moment-again, unpacks}
 text_in : Text → Text
 text_in t = record { bytes = t.bytes; len = at_most 255 t.len }
 
-period_of : Period → Period
-period_of Period.Absent = Period.Absent
-period_of (Period.Days n) = Period.Days (at_most 254 n)
+period_of : Option ℕ → Option ℕ
+period_of None = None
+period_of (Some n) = Some (at_most 254 n)
 
 moment_in : Moment → Moment
 moment_in m = moment_of (moment_packed m)
@@ -79,10 +79,10 @@ same_text : (t : Text) → text_bytes (text_in t) ≡ text_bytes t
 unfolding text_bytes text_in
 same_text t = rw (at_most_in 255 (at_most 255 t.len) (at-most-le 255 t.len))
 
-same-period : (p : Period) → period_byte (period_of p) ≡ period_byte p
+same-period : (p : Option ℕ) → period_byte (period_of p) ≡ period_byte p
 unfolding period_byte period_of
-same-period Period.Absent = refl
-same-period (Period.Days n) = at_most_in 254 (at_most 254 n) (at-most-le 254 n)
+same-period None = refl
+same-period (Some n) = at_most_in 254 (at_most 254 n) (at-most-le 254 n)
 
 moment-most : (m : Moment) → moment_packed m ≤ 18446744073709551615
 unfolding moment_packed
@@ -127,10 +127,10 @@ unfolding hold
 texts-room [] e = refl
 texts-room (t ∷ ts) e = and_both (text-room t (and_left _ _ e)) (texts-room ts (and_right (text_held t) _ e))
 
-period-room : (p : Period) → period_fits (period_of p) ≡ true
+period-room : (p : Option ℕ) → period_fits (period_of p) ≡ true
 unfolding period_fits period_of
-period-room Period.Absent = refl
-period-room (Period.Days n) = le-leb (at_most 254 n) 254 (at-most-le 254 n)
+period-room None = refl
+period-room (Some n) = le-leb (at_most 254 n) 254 (at-most-le 254 n)
 
 moment-room : (m : Moment) → moment_fits (moment_in m) ≡ true
 unfolding moment_fits moment_in moment_of
@@ -175,10 +175,10 @@ reason-itself : (t : Text) → reason_form (text_in t) ≡ true → text_in t �
 unfolding reason_form
 reason-itself t e = or_case (text_form 0 0 (text_in t)) (text_form 4 4 (text_in t)) e (text-itself 0 0 t) (text-itself 4 4 t)
 
-period-itself : (p : Period) → period_form (period_of p) ≡ true → period_of p ≡ p
+period-itself : (p : Option ℕ) → period_form (period_of p) ≡ true → period_of p ≡ p
 unfolding period_form period_of
-period-itself Period.Absent e = refl
-period-itself (Period.Days n) e = rw (at_most_in 254 n (in_place 254 n 9 (omega arith) (leb-true (at_most 254 n) 9 e)))
+period-itself None e = refl
+period-itself (Some n) e = rw (at_most_in 254 n (in_place 254 n 9 (omega arith) (leb-true (at_most 254 n) 9 e)))
 
 module _ (m : Moment) where
   time : ℕ

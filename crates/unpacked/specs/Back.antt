@@ -1,9 +1,8 @@
 -- Neither way loses anything: what packing and unpacking say of each other. Proved in proofs/Back.
-use Rattle.std.specs.Prelude.{ℕ, ◌+◌, ◌*◌, ◌≡◌, Bool, true, false, ◌&&◌, List, map, leb, eqb, length}
+use Rattle.std.specs.Prelude.{ℕ, ◌+◌, ◌*◌, ◌≡◌, Bool, true, false, ◌&&◌, List, map, leb, eqb, length, Option, Some, None}
 use Rattle.text.specs.declared.Text.{Text}
 use Rattle.calendar.specs.declared.Moment.{Moment}
 use Rattle.trade.specs.Records.{blank_trade}
-use Rattle.trade.specs.declared.Period.{Period}
 use Rattle.trade.specs.declared.Trade.{Trade}
 use Rattle.format.specs.Writable.{hold}
 use Rattle.values.specs.Mt515.{mt515}
@@ -17,9 +16,9 @@ use Rattle.unpacked.specs.Unpacked.{unpacked_of}
 unfoldable pub text_fits : Text → Bool
 text_fits t = eqb (length t.bytes) 20 && leb t.len 255
 
-unfoldable pub period_fits : Period → Bool
-period_fits Period.Absent = true
-period_fits (Period.Days n) = leb n 254
+unfoldable pub period_fits : Option ℕ → Bool
+period_fits None = true
+period_fits (Some n) = leb n 254
 
 unfoldable pub moment_fits : Moment → Bool
 moment_fits m = leb (m.date.0 * 1000000 + m.time.0) 18446744073709551615 && leb m.time.0 999999

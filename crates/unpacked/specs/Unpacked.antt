@@ -1,5 +1,5 @@
 -- The record of 375 bytes, by the places of packed's specs/Packed; no record, with the blank one beside it, where a code byte names no word.
-use Rattle.std.specs.Prelude.{ℕ, ◌+◌, ◌*◌, Bool, true, false, ◌&&◌, cond, List, [], ◌∷◌, map, leb, eqb, drop, get_or}
+use Rattle.std.specs.Prelude.{ℕ, ◌+◌, ◌*◌, Bool, true, false, ◌&&◌, cond, List, [], ◌∷◌, map, leb, eqb, drop, get_or, Option, Some, None}
 use Rattle.text.specs.Bytes.{parts}
 use Rattle.text.specs.declared.Text.{Text}
 use Rattle.calendar.specs.Dates.{moment_of}
@@ -7,7 +7,6 @@ use Rattle.trade.specs.Records.{blank_trade}
 use Rattle.trade.specs.declared.Kind.{Kind}
 use Rattle.typed.specs.declared.Side.{Side}
 use Rattle.trade.specs.declared.Service.{Service}
-use Rattle.trade.specs.declared.Period.{Period}
 use Rattle.trade.specs.declared.Trade.{Trade}
 use Rattle.unpacked.specs.declared.Unpacked.{Unpacked}
 
@@ -26,8 +25,8 @@ side_from b = get_or (Side.Buyi ∷ Side.Sell ∷ []) b Side.Buyi
 unfoldable pub service_from : ℕ → Service
 service_from b = get_or (Service.Sbod ∷ Service.Tftd ∷ Service.Stip ∷ []) b Service.Sbod
 
-unfoldable pub period_from : ℕ → Period
-period_from b = cond (eqb b 255) Period.Absent (Period.Days b)
+unfoldable pub period_from : ℕ → Option ℕ
+period_from b = cond (eqb b 255) None (Some b)
 
 -- ---- a text and a number from their bytes
 
@@ -50,7 +49,7 @@ numbers_in s = map number_from (parts 8 7 (drop 319 s))
 abbrev none : Text
 none = record { bytes = []; len = 0 }
 
-unfoldable pub trade_from : Kind → Side → Service → Period → List Text → List ℕ → Trade
+unfoldable pub trade_from : Kind → Side → Service → Option ℕ → List Text → List ℕ → Trade
 trade_from kind side service period texts numbers =
     record {
       password = get_or texts 0 none;

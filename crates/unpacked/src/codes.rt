@@ -2,7 +2,7 @@
 ghost use Rattle.std.specs.Prelude.{◌≡◌, ◌≤◌, length};
 ghost use Rattle.unpacked.specs.Unpacked.{named, kind_from, side_from, service_from, period_from};
 
-use trade::{Kind, Period, Service};
+use trade::{Kind, Service};
 use typed::Side;
 
 // Each code byte names a word of its list.
@@ -46,12 +46,8 @@ pub(crate) fn service_from(byte: u8) -> Service
     }
 }
 
-pub(crate) fn period_from(byte: u8) -> Period
+pub(crate) fn period_from(byte: u8) -> Option<u64>
     ensures { result ≡ period_from byte }
 {
-    if byte == 255 {
-        Period::Absent
-    } else {
-        Period::Days(byte as u64)
-    }
+    if byte == 255 { None } else { Some(byte as u64) }
 }

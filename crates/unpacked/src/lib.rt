@@ -17,7 +17,7 @@ use calendar::{Date, Moment, Time};
 use mt515::Mt515;
 use writing::Writing;
 use text::Text;
-use trade::{Kind, Party, Period, Service, Trade};
+use trade::{Kind, Party, Service, Trade};
 use typed::Side;
 
 // The record of some bytes; the blank record where they are none.
@@ -32,7 +32,7 @@ fn trade_from(
     kind: Kind,
     side: Side,
     service: Service,
-    period: Period,
+    period: Option<u64>,
     texts: [Text; 15],
     numbers: [u64; 7],
 ) -> Trade

@@ -10,6 +10,7 @@ use lib.Dec.{leb}
 use lib.ListN.{length, drop, get_or, length-append}
 use lib.Seq.{take_at, drop_at, drop-drop}
 use borrow.Author.Tests.{leb-true, le-leb}
+use Rattle.std.proofs.Common.{Option, Some, None}
 use Rattle.text.specs.Bytes.{bytes, begins, same}
 use Rattle.text.specs.Classes.{is_digit, is_between}
 use Rattle.text.specs.Texts.{text_of}
@@ -23,7 +24,6 @@ use Rattle.forms.specs.Narrative.{services, service_in, has_period, period_in, b
 use Rattle.forms.proofs.Narratives.{period_part, worded, period-digit, good-reason, narrative-is}
 use Rattle.trade.specs.Narrative.{service_of, period_of}
 use Rattle.trade.specs.declared.Service.{Service}
-use Rattle.trade.specs.declared.Period.{Period}
 use Rattle.values.specs.Values.{service_word, period_text, narrative}
 use Rattle.values.specs.Writable.{period_form}
 use Rattle.format.proofs.BySlot.{◌⨾◌, word_back}
@@ -48,17 +48,17 @@ service-is Service.Stip = refl
 
 -- ---- what is written is a narrative, and means what was written
 
-pub record Told (service : Service) (period : Period) (reason : Text) (v : List ℕ) : Type 0 where
+pub record Told (service : Service) (period : Option ℕ) (reason : Text) (v : List ℕ) : Type 0 where
   pub is : is_narrative v ≡ true
   pub service-of : service_of v ≡ service
   pub period-of : period_of v ≡ period
   pub reason-of : text_of (reason_in (behind_period v)) ≡ reason
 
-period-part : (period : Period) (rest v : List ℕ) → period_form period ≡ true → good_reason rest ≡ true → drop 9 v ≡ period_text period ++ rest
+period-part : (period : Option ℕ) (rest v : List ℕ) → period_form period ≡ true → good_reason rest ≡ true → drop 9 v ≡ period_text period ++ rest
     → (period_of v ≡ period) × (good_period v ≡ true) × (behind_period v ≡ rest)
 unfolding period_of good_period behind_period has_period period_in period_text period_form bytes begins digits is_digit is_between
-period-part Period.Absent rest v f g e = rw (e, no_other rest g (bytes "/GUPP") refl (λ s. refl)) (refl, refl, refl)
-period-part (Period.Days n) rest v f g e =
+period-part None rest v f g e = rw (e, no_other rest g (bytes "/GUPP") refl (λ s. refl)) (refl, refl, refl)
+period-part (Some n) rest v f g e =
     let small : n ≤ 9 = leb-true n 9 f in
     let digit : 48 + n % 10 - 48 ≡ n = omega arith in
     let low : leb 48 (48 + n % 10) ≡ true = le-leb 48 (48 + n % 10) (omega arith) in
@@ -66,7 +66,7 @@ period-part (Period.Days n) rest v f g e =
     let last : drop 15 v ≡ drop 6 (drop 9 v) = sym (drop-drop 6 9 v) in
     rw (last, e, digit, low, high) (refl, refl, refl)
 
-module _ (service : Service) (period : Period) (reason : Text) (goodp : period_form period ≡ true) (goodr : reason_form reason ≡ true) where
+module _ (service : Service) (period : Option ℕ) (reason : Text) (goodp : period_form period ≡ true) (goodr : reason_form reason ≡ true) where
   behind-word : drop 9 (narrative service period reason) ≡ period_text period ++ reason_text reason
   unfolding narrative bytes
   behind-word = drop_at (service_word service) (period_text period ++ reason_text reason) 4 (service-four service)
@@ -99,8 +99,8 @@ module _ (v : List ℕ) (is : is_narrative v ≡ true) where
   period-told = go (has_period v) refl
     where
       go : (b : Bool) → has_period v ≡ b
-          → (cond b (bytes "/GUPP" ++ period_in v ∷ []) [] ≡ period_text (cond b (Period.Days (period_in v - 48)) Period.Absent))
-          × (period_form (cond b (Period.Days (period_in v - 48)) Period.Absent) ≡ true)
+          → (cond b (bytes "/GUPP" ++ period_in v ∷ []) [] ≡ period_text (cond b (Some (period_in v - 48)) None))
+          × (period_form (cond b (Some (period_in v - 48)) None) ≡ true)
       go true h =
           let d = period-digit v is h in
           let low : 48 ≤ period_in v = leb-true _ _ (and_left _ _ d) in
@@ -121,13 +121,13 @@ module _ (v : List ℕ) (is : is_narrative v ≡ true) where
 
 -- ---- how long it is
 
-pub period-short : (period : Period) → length (period_text period) ≤ 6
+pub period-short : (period : Option ℕ) → length (period_text period) ≤ 6
 unfolding period_text bytes digits
-period-short Period.Absent = omega arith
-period-short (Period.Days n) = omega arith
+period-short None = omega arith
+period-short (Some n) = omega arith
 
 -- at most 24 bytes, which with `GSCC` in front are 28
-pub narrative-short : (service : Service) (period : Period) (reason : Text) → reason_form reason ≡ true → length (narrative service period reason) ≤ 24
+pub narrative-short : (service : Service) (period : Option ℕ) (reason : Text) → reason_form reason ≡ true → length (narrative service period reason) ≤ 24
 unfolding narrative bytes
 narrative-short service period reason f =
     let a = service-four service in

@@ -6,12 +6,12 @@ use mathlib.Core.Bool.{Bool, true, false, cond}
 use mathlib.Core.List.{List, [], ◌++◌, append_assoc}
 use native.Mathlib.Omega.{arith}
 use lib.ListN.{length, take, length-append}
+use Rattle.std.proofs.Common.{Option}
 use Rattle.text.specs.Bytes.{bytes}
 use Rattle.text.specs.declared.Text.{Text}
 use Rattle.reason.specs.Reason.{reason_text}
 use Rattle.trade.specs.declared.Kind.{Kind}
 use Rattle.trade.specs.declared.Service.{Service}
-use Rattle.trade.specs.declared.Period.{Period}
 use Rattle.kinds.specs.Kinds.{function_of}
 use Rattle.fill.proofs.Runs.{Put, two, end_of, in-front}
 use Rattle.values.specs.Values.{kind_word, service_word, period_text, narrative}
@@ -24,7 +24,7 @@ unfolding bytes
 service-long service = let h = service-four service in omega arith
 
 -- a service with its key, and the other two behind it
-pub narrative-is : (service : Service) (period : Period) (reason : Text) (w : List ℕ) → w ≡ bytes "/TDSV" ++ service_word service
+pub narrative-is : (service : Service) (period : Option ℕ) (reason : Text) (w : List ℕ) → w ≡ bytes "/TDSV" ++ service_word service
     → w ++ (period_text period ++ reason_text reason) ≡ narrative service period reason
 unfolding narrative
 narrative-is service period reason w e = rw e (append_assoc (bytes "/TDSV") (service_word service) (period_text period ++ reason_text reason))

@@ -1,14 +1,13 @@
 -- Document 01, "What the desk program prints" and "Plain form, and the record": B's record and an MDFC that has every field, with
 -- what each has for every slot.
 use Prim.Native.String.{String}
-use Rattle.std.specs.Prelude.{◌≡◌, List, [], ◌∷◌, map}
+use Rattle.std.specs.Prelude.{◌≡◌, List, [], ◌∷◌, map, Some, None}
 use Rattle.text.specs.Bytes.{bytes}
 use Rattle.text.specs.Texts.{text_of}
 use Rattle.text.specs.declared.Text.{Text}
 use Rattle.trade.specs.declared.Kind.{Kind}
 use Rattle.typed.specs.declared.Side.{Side}
 use Rattle.trade.specs.declared.Service.{Service}
-use Rattle.trade.specs.declared.Period.{Period}
 use Rattle.trade.specs.declared.Trade.{Trade}
 use Rattle.values.specs.Values.{values}
 
@@ -36,7 +35,7 @@ b =
       cusip = text "01F070633";
       pool = text "";
       service = Service.Stip;
-      period = Period.Absent;
+      period = None;
       reason = text "";
     }
 
@@ -61,7 +60,7 @@ full =
       cusip = text "000000000";
       pool = text "POOL00001";
       service = Service.Tftd;
-      period = Period.Days 0;
+      period = Some 0;
       reason = text "E004";
     }
 

@@ -1,6 +1,6 @@
 -- Document 01, "The slots, in order", and "Plain form, and the record": the value that a record has for each slot, as it stands
 -- behind the slot's fixed text; nothing where the record has none.
-use Rattle.std.specs.Prelude.{ℕ, List, [], ◌∷◌, ◌++◌, get_or}
+use Rattle.std.specs.Prelude.{ℕ, List, [], ◌∷◌, ◌++◌, get_or, Option, Some, None}
 use Rattle.text.specs.Bytes.{bytes}
 use Rattle.text.specs.Texts.{contents}
 use Rattle.text.specs.declared.Text.{Text}
@@ -14,7 +14,6 @@ use Rattle.typed.specs.Sides.{side_word}
 use Rattle.trade.specs.Records.{kinds}
 use Rattle.trade.specs.declared.Kind.{Kind}
 use Rattle.trade.specs.declared.Service.{Service}
-use Rattle.trade.specs.declared.Period.{Period}
 use Rattle.trade.specs.declared.Trade.{Trade}
 use Rattle.kinds.specs.Kinds.{function_of}
 
@@ -34,11 +33,11 @@ service_word Service.Stip = word services 2
 -- ---- the narrative behind `//GSCC`
 
 -- GUPP 0 is present
-unfoldable pub period_text : Period → List ℕ
-period_text Period.Absent = []
-period_text (Period.Days n) = bytes "/GUPP" ++ digits 1 n
+unfoldable pub period_text : Option ℕ → List ℕ
+period_text None = []
+period_text (Some n) = bytes "/GUPP" ++ digits 1 n
 
-unfoldable pub narrative : Service → Period → Text → List ℕ
+unfoldable pub narrative : Service → Option ℕ → Text → List ℕ
 narrative service period reason = bytes "/TDSV" ++ (service_word service ++ (period_text period ++ reason_text reason))
 
 -- ---- the value of each slot, numbered as document 01 numbers its fields. What is absent has no bytes, nor has a number that names

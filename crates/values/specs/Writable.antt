@@ -1,5 +1,5 @@
 -- Document 01, number 18: a record field is outside its slot's values or the forms of the record.
-use Rattle.std.specs.Prelude.{ℕ, Bool, true, ◌&&◌, List, [], ◌∷◌, leb}
+use Rattle.std.specs.Prelude.{ℕ, Bool, true, ◌&&◌, List, [], ◌∷◌, leb, Option, Some, None}
 use Rattle.text.specs.declared.Text.{Text}
 use Rattle.amount.specs.Amounts.{in_form as amount_form}
 use Rattle.calendar.specs.Dates.{is_date, is_moment}
@@ -8,15 +8,14 @@ use Rattle.typed.specs.Prep.{prep_form}
 use Rattle.format.specs.Writable as AnyType
 use Rattle.format.specs.Writable.{hold}
 use Rattle.trade.specs.Records.{password_slot, sender_slot}
-use Rattle.trade.specs.declared.Period.{Period}
 use Rattle.trade.specs.declared.Trade.{Trade}
 use Rattle.table.specs.Table.{slot_of}
 use Rattle.table.specs.Tree.{tree}
 
 -- GUPP is absent or one digit
-unfoldable pub period_form : Period → Bool
-period_form Period.Absent = true
-period_form (Period.Days n) = leb n 9
+unfoldable pub period_form : Option ℕ → Bool
+period_form None = true
+period_form (Some n) = leb n 9
 
 -- ---- one test for each slot, in their order. What the layout makes mandatory must be there; what is optional may be of length
 -- 0. Code words are always words of their lists, and 23G is not held

@@ -5,16 +5,16 @@ ghost use Rattle.values.specs.Values.{period_text, narrative};
 
 use super::words;
 use text::Text;
-use trade::{Period, Service};
+use trade::Service;
 
 // `/GUPP` and its digit, 0 too; nothing where there is no period.
-fn put_period(line: &mut [u8], at: usize, period: Period) -> usize
+fn put_period(line: &mut [u8], at: usize, period: Option<u64>) -> usize
     requires { at + 6 ≤ length line.old }
     ensures { (result ≡ after line.old at (period_text period)) × (line.new ≡ placed line.old at (period_text period)) }
 {
     match period {
-        Period::Absent => text::put(line, at, b""),
-        Period::Days(days) => {
+        None => text::put(line, at, b""),
+        Some(days) => {
             let next = text::put(line, at, b"/GUPP");
             digits::put_digits(line, next, 1, days)
         }
@@ -26,7 +26,7 @@ pub(crate) fn put_narrative(
     buf: &mut [u8],
     at: usize,
     service: Service,
-    period: Period,
+    period: Option<u64>,
     reason: Text,
 ) -> usize
     ensures { (result ≡ after buf.old at (narrative service period reason)) × (buf.new ≡ placed buf.old at (narrative service period reason)) × (length (narrative service period reason) ≤ 40) }

@@ -12,22 +12,22 @@ slice_bounds-read_digits-end c =
     let l = within a.whole a.rest.now _ c.lasting-decimals.ensures in
     rw length-take (omega arith)
 
-pub returns-in_default : goal.returns-in_default
-returns-in_default c = rest-wrong c.args.whole _ _ c.lasting-decimals.ensures c.requires.0 c.requires.1 (sym c.read_digits.ensures ∙ c.in_default.is)
+pub returns-in_err-tail : goal.returns-in_err-tail
+returns-in_err-tail c = c.from_residual.ensures ∙ rest-wrong c.args.whole _ _ c.lasting-decimals.ensures c.requires.0 c.requires.1 (sym c.in_err-tail.ensures)
 
 pub overflow_mul-result : goal.overflow_mul-result
 overflow_mul-result c =
-    let bound : c.args.whole * c.ten_to.result + c.in-Is.tail < 2 ^ 64 =
-    room _ _ _ c.lasting-decimals.ensures c.requires.0 c.requires.1 _ _ (sym c.read_digits.ensures ∙ c.in-Is.is) c.ten_to.ensures
+    let bound : c.args.whole * c.ten_to.result + c.in_ok-tail.tail < 2 ^ 64 =
+    room _ _ _ c.lasting-decimals.ensures c.requires.0 c.requires.1 _ _ (sym c.in_ok-tail.ensures) c.ten_to.ensures
     in
     let b = bound in omega arith
 
 pub overflow_add-result : goal.overflow_add-result
 overflow_add-result c =
-    let bound : c.args.whole * c.ten_to.result + c.in-Is.tail < 2 ^ 64 =
-    room _ _ _ c.lasting-decimals.ensures c.requires.0 c.requires.1 _ _ (sym c.read_digits.ensures ∙ c.in-Is.is) c.ten_to.ensures
+    let bound : c.args.whole * c.ten_to.result + c.in_ok-tail.tail < 2 ^ 64 =
+    room _ _ _ c.lasting-decimals.ensures c.requires.0 c.requires.1 _ _ (sym c.in_ok-tail.ensures) c.ten_to.ensures
     in
     let b = bound in omega arith
 
 pub returns : goal.returns
-returns c = parts-good _ _ _ c.lasting-decimals.ensures c.requires.0 c.requires.1 _ _ (sym c.read_digits.ensures ∙ c.in-Is.is) c.ten_to.ensures
+returns c = parts-good _ _ _ c.lasting-decimals.ensures c.requires.0 c.requires.1 _ _ (sym c.in_ok-tail.ensures) c.ten_to.ensures

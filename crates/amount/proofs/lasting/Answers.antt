@@ -1,20 +1,18 @@
-use mathlib.Core.Path.{◌≡◌, ap}
-use lib.Seq.{take-length}
-use native.Mathlib.Omega.{arith}
-use Rattle.amount.specs.Amounts.{shortened}
-use Rattle.amount.proofs.Noughts.{lasts, goes, none_left}
+-- `amount::lasting` meets its contract: what is left ends at the last byte that is no nought. Assumes nothing.
+use Rattle.std.proofs.Common.{◌≡◌, sym, ◌∙◌, rules, tests, arith, reverse}
+use Rattle.std.proofs.lemmas.Iterator.Adapters.{YieldsList-from_rev_slice}
+use Rattle.std.proofs.lemmas.Iterator.Search.{position_from_yields_List}
+use Rattle.std.proofs.lemmas.List.{length-reverse}
+use Rattle.std.specs.List.{position}
+use Rattle.amount.specs.Amounts.{noughts}
+use Rattle.amount.proofs.Noughts.{other, first-other, last-other}
 use Rattle.amount.proofs.lasting.Goals as goal
-
-pub loop-n-init : goal.loop-n-init
-loop-n-init c = (omega arith, ap shortened (take-length _))
-
-pub returns-then-part-n-ne48 : goal.returns-then-part-n-ne48
-returns-then-part-n-ne48 c = lasts _ _ c.loop-n.invariant.0 c.loop-n.invariant.1 c.loop-n-test.true c.if-part-n-ne48.true
-
-pub loop-n-preserved : goal.loop-n-preserved
-loop-n-preserved c = (omega arith, goes _ _ c.loop-n.invariant.0 c.loop-n.invariant.1 c.loop-n-test.true c.if-part-n-ne48.false)
 
 pub returns : goal.returns
 returns c =
-    let z : c.loop-n.n ≡ 0 = omega arith in
-    none_left _ (rw z at c.loop-n.invariant.1)
+    let part = c.args.part.now in
+    let found : c.position.result ≡ position other (reverse part) =
+    position_from_yields_List other _ _ c.position.result c.position.ensures.ran (YieldsList-from_rev_slice part cc) (λ x b q k. search (rules, tests))
+    in
+    let gone : c.unwrap_or-noughts.result ≡ noughts (reverse part) = c.unwrap_or-noughts.ensures ∙ rw found (first-other (reverse part) _ (sym (length-reverse part))) in
+    omega (arith, gone, last-other part)

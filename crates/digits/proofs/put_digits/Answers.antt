@@ -1,5 +1,4 @@
-use mathlib.Core.Path.{◌≡◌, refl, ◌∙◌}
-use lib.ListN.{length-set}
+use mathlib.Core.Path.{◌≡◌, ◌∙◌}
 use native.Mathlib.Omega.{arith}
 use Rattle.digits.specs.Numerals.{digits}
 use Rattle.digits.proofs.Spelling.{put-none, put-more, put-done}
@@ -13,15 +12,12 @@ returns-then-buf-at-2 c =
     let a = c.args in
     put-none a.buf.now a.at a.width _ (omega arith)
 
-pub loop-left-init : goal.loop-left-init
-loop-left-init c = (omega arith, refl, refl)
-
 pub loop-left-preserved : goal.loop-left-preserved
-loop-left-preserved c = (omega arith, simp length-set c.loop-left.invariant.1, put-more c.loop-left.buf _ c.loop-left.left c.loop-left.rest c.loop-left-test.true (omega arith) ∙ c.loop-left.invariant.2)
+loop-left-preserved c = put-more c.loop-left.buf _ c.loop-left.left c.loop-left.rest c.loop-left-test.true (omega arith) ∙ c.loop-left.invariant
 
 pub returns : goal.returns
 unfolding digits
 returns c =
     let a = c.args in
     let z : c.loop-left.left ≡ 0 = omega arith in
-    put-done a.buf.now a.at a.width a.number c.loop-left.buf (omega arith) (rw z at c.loop-left.invariant.2)
+    put-done a.buf.now a.at a.width a.number c.loop-left.buf (omega arith) (rw z at c.loop-left.invariant)

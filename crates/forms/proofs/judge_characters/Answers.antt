@@ -5,4 +5,4 @@ use Rattle.forms.proofs.Parts.{characters-number}
 use Rattle.forms.proofs.judge_characters.Goals as goal
 
 pub returns : goal.returns
-returns c = c.unless.ensures ∙ ap unless c.is_all.ensures ∙ characters-number _ _ _ _ _ _ c.wide.ensures c.wide-2.ensures
+returns c = c.unless.ensures ∙ ap unless c.is_all.ensures ∙ characters-number _ _ _ _ _ _ c.from.ensures c.from-2.ensures

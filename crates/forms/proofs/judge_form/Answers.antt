@@ -5,12 +5,6 @@ use Rattle.calendar.specs.Dates.{date_number, moment_number}
 use Rattle.forms.specs.Forms.{unless, form_number}
 use Rattle.forms.specs.Slots.{form_of}
 use Rattle.forms.proofs.Parts.{words-number, past-nine, no-form}
-use Rattle.amount.proofs.Amount.read.Reads as Amount-read-reads
-use Rattle.amount.proofs.AmountRead.number.Reads as AmountRead-number-reads
-use Rattle.calendar.proofs.Date.read.Reads as Date-read-reads
-use Rattle.calendar.proofs.DateRead.number.Reads as DateRead-number-reads
-use Rattle.calendar.proofs.Moment.read.Reads as Moment-read-reads
-use Rattle.calendar.proofs.MomentRead.number.Reads as MomentRead-number-reads
 use Rattle.forms.proofs.judge_form.Goals as goal
 
 pub returns-in-0 : goal.returns-in-0
@@ -19,11 +13,11 @@ returns-in-0 c = rw c.in-0.is c.unless.ensures
 
 pub returns-in-1 : goal.returns-in-1
 unfolding form_of form_number
-returns-in-1 c = rw (c.in-1.is, ← c.wide-in-1.ensures, ← c.wide.ensures) (c.unless-in-1.ensures ∙ ap unless c.is_code.ensures)
+returns-in-1 c = rw (c.in-1.is, ← c.from-in-1.ensures, ← c.from.ensures) (c.unless-in-1.ensures ∙ ap unless c.is_code.ensures)
 
 pub returns-in-2 : goal.returns-in-2
 unfolding form_of form_number
-returns-in-2 c = rw c.in-2.is (c.unless-in-2.ensures ∙ words-number _ _ _ _ _ _ c.word_in.ensures c.wide-in-2.ensures)
+returns-in-2 c = rw c.in-2.is (c.unless-in-2.ensures ∙ words-number _ _ _ _ _ _ c.word_in.ensures c.from-in-2.ensures)
 
 pub returns-in-3 : goal.returns-in-3
 unfolding form_of form_number

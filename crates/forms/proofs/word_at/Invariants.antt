@@ -1,14 +1,11 @@
 -- `forms::word_at` meets its contract. The loop's invariant: the place is that of the words passed and of the place among the rest.
 -- Assumes nothing.
-use Prim.Native.Nat.{◌≤◌, ◌+◌, ◌-◌, ◌/◌}
+use Prim.Native.Nat.{◌+◌}
 use mathlib.Core.Path.{◌≡◌}
-use lib.ListN.{length, drop}
+use lib.ListN.{drop}
 use Rattle.forms.specs.Forms.{word_at}
 use Rattle.forms.specs.Slots.{words_of}
 use Rattle.forms.proofs.word_at.Given as goal
 
 abbrev pub invariant-loop-i : goal.invariant-loop-i
-invariant-loop-i l = (l.count ≡ length l.words / 4) × (l.i ≤ l.count) × (word_at (words_of l.words) l.value ≡ l.i + word_at (drop l.i (words_of l.words)) l.value)
-
-abbrev pub decreases-loop-i : goal.decreases-loop-i
-decreases-loop-i l = l.count - l.i
+invariant-loop-i l = word_at (words_of l.words) l.value ≡ l.i + word_at (drop l.i (words_of l.words)) l.value

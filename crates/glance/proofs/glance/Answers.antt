@@ -8,13 +8,9 @@ use Rattle.glance.proofs.Turns.{says}
 use borrow.Author.Rules.{rules}
 use Rattle.glance.proofs.glance.Goals as goal
 
-pub returns-in_default : goal.returns-in_default
-unfolding Says
-returns-in_default c = tt
-
 pub take_body-requires : goal.take_body-requires
 unfolding HeadSays
-take_body-requires c = let h = rw c.in-Is.is at c.take_header.ensures in h.0
+take_body-requires c = c.in_ok-from.ensures.0
 
 pub returns : goal.returns
 returns c =
@@ -24,4 +20,4 @@ returns c =
     let wide : length c.args.ends.now ≡ slot_count =
     search rules
     in
-    says _ _ _ _ _ _ _ _ _ _ _ long wide (rw c.in-Is.is at c.take_header.ensures) _ c.take_body.ensures
+    says _ _ _ _ _ _ _ _ _ _ _ long wide c.in_ok-from.ensures _ c.take_body.ensures

@@ -2,11 +2,11 @@ use Prim.Native.Nat.{◌+◌, ◌≤◌}
 use mathlib.Core.Path.{refl}
 use lib.ListN.{length, drop, get_or, length-drop}
 use borrow.Author.Tests.{ne_eqb}
+use Rattle.std.proofs.Common.{Some}
 use Rattle.text.proofs.Laws.{rest_of}
 use native.Mathlib.Omega.{arith}
 use Rattle.forms.specs.Slots.{slot_at}
 use Rattle.measure.specs.Measure.{Measured}
-use Rattle.measure.specs.declared.Width.TheVariants.{Is}
 use Rattle.glance.specs.Steps.{Ended, Ends, HeadSays}
 use Rattle.glance.proofs.Turns.{head-begin, head-again, head-says}
 use Rattle.glance.proofs.take_header.Goals as goal
@@ -14,28 +14,15 @@ use Rattle.glance.proofs.take_header.Goals as goal
 pub loop-slot-init : goal.loop-slot-init
 loop-slot-init c = head-begin _ _ _ _ _
 
-pub returns-then-slot-eq0 : goal.returns-then-slot-eq0
-unfolding HeadSays
-returns-then-slot-eq0 c = tt
-
-pub returns-in_default : goal.returns-in_default
-unfolding HeadSays
-returns-in_default c = tt
-
 pub overflow_add-at : goal.overflow_add-at
 unfolding Measured
 overflow_add-at c =
     let text = c.args.text.now in
-    let measured : Measured (slot_at c.args.slots.now (get_or c.args.header.now c.loop-slot.slot-index 0)) (drop c.loop-slot.at text) (Is c.in-Is.n) =
-    rw (c.in-Is.is, rest_of c.loop-slot.at (length text) text refl) at c.plain.ensures
+    let measured : Measured (slot_at c.args.slots.now (get_or c.args.header.now c.loop-slot.slot-index 0)) (drop c.loop-slot.at text) (Some c.in_ok-n.n) =
+    rw (rest_of c.loop-slot.at (length text) text refl) at c.in_ok-n.ensures
     in
-    let ends-in : c.loop-slot.at + c.in-Is.n ≤ length text = omega (arith, measured.0, length-drop c.loop-slot.at text, c.loop-slot.invariant.place) in
+    let ends-in : c.loop-slot.at + c.in_ok-n.n ≤ length text = omega (arith, measured.0, length-drop c.loop-slot.at text, c.loop-slot.invariant.place) in
     omega (arith, ends-in)
-
-pub returns-in_default-behind : goal.returns-in_default-behind
-unfolding HeadSays
-returns-in_default-behind c =
-    tt
 
 pub overflow_cast-slot : goal.overflow_cast-slot
 overflow_cast-slot c =
@@ -45,10 +32,10 @@ pub overflow_add-at-in-loop-slot : goal.overflow_add-at-in-loop-slot
 unfolding Measured
 overflow_add-at-in-loop-slot c =
     let text = c.args.text.now in
-    let measured : Measured (slot_at c.args.slots.now (get_or c.args.header.now c.loop-slot.slot-index 0)) (drop c.loop-slot.at text) (Is c.in-Is.n) =
-    rw (c.in-Is.is, rest_of c.loop-slot.at (length text) text refl) at c.plain.ensures
+    let measured : Measured (slot_at c.args.slots.now (get_or c.args.header.now c.loop-slot.slot-index 0)) (drop c.loop-slot.at text) (Some c.in_ok-n.n) =
+    rw (rest_of c.loop-slot.at (length text) text refl) at c.in_ok-n.ensures
     in
-    let ends-in : c.loop-slot.at + c.in-Is.n ≤ length text = omega (arith, measured.0, length-drop c.loop-slot.at text, c.loop-slot.invariant.place) in
+    let ends-in : c.loop-slot.at + c.in_ok-n.n ≤ length text = omega (arith, measured.0, length-drop c.loop-slot.at text, c.loop-slot.invariant.place) in
     omega (arith, ends-in)
 
 pub keep-requires : goal.keep-requires
@@ -59,10 +46,10 @@ pub loop-slot-preserved : goal.loop-slot-preserved
 unfolding Ends
 loop-slot-preserved c =
     let text = c.args.text.now in
-    let measured : Measured (slot_at c.args.slots.now (get_or c.args.header.now c.loop-slot.slot-index 0)) (drop c.loop-slot.at text) (Is c.in-Is.n) =
-    rw (c.in-Is.is, rest_of c.loop-slot.at (length text) text refl) at c.plain.ensures
+    let measured : Measured (slot_at c.args.slots.now (get_or c.args.header.now c.loop-slot.slot-index 0)) (drop c.loop-slot.at text) (Some c.in_ok-n.n) =
+    rw (rest_of c.loop-slot.at (length text) text refl) at c.in_ok-n.ensures
     in
-    let ended : Ended text (c.loop-slot.at + c.in-Is.n) c.in-Is-behind.next = rw c.in-Is-behind.is at c.behind.ensures in
+    let ended : Ended text (c.loop-slot.at + c.in_ok-n.n) c.in_ok-next.next = c.in_ok-next.ensures in
     let some = ne_eqb _ _ c.if-slot-eq0.false in
     head-again _ _ _ _ _ _ _ _ _ c.loop-slot.invariant _ _ measured ended c.loop-slot-test.true _ _ (rw some at c.keep.ensures.0) (rw some at c.keep.ensures.1)
 

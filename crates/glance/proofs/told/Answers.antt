@@ -10,4 +10,4 @@ returns-in_default c = λ t. absurd (true≢false (sym t ∙ c.nothing.ensures))
 
 pub returns : goal.returns
 unfolding Told Ends
-returns c = λ t. (refl, refl, refl, rw c.in-Is.is at c.behind.ensures)
+returns c = λ t. (refl, refl, refl, rw c.in-Some.is at c.behind.ensures)

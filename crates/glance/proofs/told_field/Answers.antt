@@ -4,9 +4,9 @@ use mathlib.Core.Path.{refl, sym, ◌∙◌}
 use mathlib.Core.Bool.{true≢false}
 use native.Mathlib.Omega.{arith}
 use lib.ListN.{length, drop, length-drop}
+use Rattle.std.proofs.Common.{Some}
 use Rattle.text.proofs.Laws.{rest_of}
 use Rattle.forms.specs.Slots.{slot_at}
-use Rattle.measure.specs.declared.Width.TheVariants.{Is}
 use Rattle.glance.proofs.Sights.{field-seen}
 use Rattle.measure.specs.Measure.{Measured}
 use Rattle.glance.specs.Steps.{FieldSeen}
@@ -23,10 +23,10 @@ returns-in_default c = λ t. absurd (true≢false (sym t ∙ c.nothing-in_defaul
 pub overflow_add-width : goal.overflow_add-width
 unfolding Measured
 overflow_add-width c =
-    let measured : Measured (slot_at c.args.slots.now c.args.step.slot) (drop c.args.width c.args.text.now) (Is c.in-Is.n) =
+    let measured : Measured (slot_at c.args.slots.now c.args.step.slot) (drop c.args.width c.args.text.now) (Some c.in-Some.n) =
     let s = c.args.text.now in
     let k = c.args.width in
-    rw (c.in-Is.is, rest_of k (length s) s refl) at c.value.ensures
+    rw (c.in-Some.is, rest_of k (length s) s refl) at c.value.ensures
     in
     let m = measured.0 in
     let s = c.args.text.now in
@@ -35,9 +35,9 @@ overflow_add-width c =
 
 pub returns : goal.returns
 returns c =
-    let measured : Measured (slot_at c.args.slots.now c.args.step.slot) (drop c.args.width c.args.text.now) (Is c.in-Is.n) =
+    let measured : Measured (slot_at c.args.slots.now c.args.step.slot) (drop c.args.width c.args.text.now) (Some c.in-Some.n) =
     let s = c.args.text.now in
     let k = c.args.width in
-    rw (c.in-Is.is, rest_of k (length s) s refl) at c.value.ensures
+    rw (c.in-Some.is, rest_of k (length s) s refl) at c.value.ensures
     in
     field-seen _ _ _ _ _ _ c.if-text-width.false measured c.told.ensures

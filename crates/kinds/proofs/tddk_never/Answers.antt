@@ -4,4 +4,4 @@ use Rattle.kinds.proofs.tddk_never.Goals as goal
 
 pub returns : goal.returns
 unfolding tddk_never
-returns c = rw (← c.present-mast.ensures, ← c.present-prev.ensures, ← c.present-list.ensures, ← c.stray-stray.ensures, ← c.has_days-days.ensures)
+returns c = rw (← c.present-mast.ensures, ← c.present-prev.ensures, ← c.present-list.ensures, ← c.stray-stray.ensures, ← c.is_some-days.ensures)

@@ -2,25 +2,8 @@
 use Prim.Native.Nat.{◌+◌}
 use mathlib.Core.Path.{refl}
 use Rattle.text.proofs.Laws.{rest_of}
-use Rattle.measure.specs.Measure.{FormMeasured}
 use Rattle.measure.proofs.Laws.{amount-told}
 use Rattle.measure.proofs.amount_width.Goals as goal
-
-pub returns-then-whole-lt1 : goal.returns-then-whole-lt1
-unfolding FormMeasured
-returns-then-whole-lt1 c = tt
-
-pub returns-then-text-whole : goal.returns-then-text-whole
-unfolding FormMeasured
-returns-then-text-whole c = tt
-
-pub returns-then-text-whole-ne44 : goal.returns-then-text-whole-ne44
-unfolding FormMeasured
-returns-then-text-whole-ne44 c = tt
-
-pub returns-then-whole-tail-gt14 : goal.returns-then-whole-tail-gt14
-unfolding FormMeasured
-returns-then-whole-tail-gt14 c = tt
 
 pub returns : goal.returns
 returns c =

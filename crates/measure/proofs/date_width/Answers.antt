@@ -1,24 +1,15 @@
 -- `measure::date_width` meets its contract. Assumes nothing.
-use mathlib.Core.Path.{sym, ap, ◌∙◌}
+use mathlib.Core.Path.{sym, ap}
 use native.Mathlib.Omega.{arith}
 use lib.ListN.{length-take}
 use Rattle.calendar.specs.Dates.{date_number}
 use Rattle.forms.specs.Forms.{form_number}
-use Rattle.measure.specs.Measure.{FormMeasured}
 use Rattle.measure.proofs.Laws.{date-told}
 use Rattle.measure.proofs.date_width.Goals as goal
-
-pub returns-then-text-lt8 : goal.returns-then-text-lt8
-unfolding FormMeasured
-returns-then-text-lt8 c = tt
 
 pub slice_bounds-read-end : goal.slice_bounds-read-end
 slice_bounds-read-end c = rw length-take (omega arith)
 
-pub returns-then-number-eq0 : goal.returns-then-number-eq0
+pub returns : goal.returns
 unfolding form_number
-returns-then-number-eq0 c = date-told _ _ (omega arith) (sym (c.number.ensures ∙ ap date_number c.read.ensures) ∙ c.if-number-eq0.true)
-
-pub returns-else-number-eq0 : goal.returns-else-number-eq0
-unfolding FormMeasured
-returns-else-number-eq0 c = tt
+returns c = date-told _ _ (omega arith) (sym (ap date_number c.in_ok-read.ensures))

@@ -1,6 +1,5 @@
 -- `measure::form_width` meets its contract: each arm is a form by its number. Assumes nothing.
 use Rattle.forms.specs.Slots.{form_of}
-use Rattle.measure.specs.Measure.{FormMeasured}
 use Rattle.measure.proofs.Laws.{nothing-told, code-told}
 use Rattle.measure.proofs.form_width.Goals as goal
 
@@ -43,7 +42,3 @@ returns-in-8 c = rw c.in-8.is c.characters_width-in-8.ensures
 pub returns-in-9 : goal.returns-in-9
 unfolding form_of
 returns-in-9 c = rw c.in-9.is c.characters_width-in-9.ensures
-
-pub returns-in_default : goal.returns-in_default
-unfolding FormMeasured
-returns-in_default c = tt

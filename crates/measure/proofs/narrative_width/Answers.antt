@@ -2,20 +2,11 @@
 use mathlib.Core.Path.{sym, ◌∙◌}
 use native.Mathlib.Omega.{arith}
 use lib.ListN.{length-take}
-use Rattle.measure.specs.Measure.{FormMeasured}
 use Rattle.measure.proofs.Laws.{narrative-told}
 use Rattle.measure.proofs.narrative_width.Goals as goal
-
-pub returns-then-text-n : goal.returns-then-text-n
-unfolding FormMeasured
-returns-then-text-n c = tt
 
 pub slice_bounds-is_narrative-end : goal.slice_bounds-is_narrative-end
 slice_bounds-is_narrative-end c = rw length-take (omega arith)
 
 pub returns-then-is_narrative : goal.returns-then-is_narrative
 returns-then-is_narrative c = narrative-told _ _ (omega arith) (sym c.is_narrative.ensures ∙ c.if-is_narrative.true)
-
-pub returns-else-is_narrative : goal.returns-else-is_narrative
-unfolding FormMeasured
-returns-else-is_narrative c = tt

@@ -3,13 +3,8 @@ use mathlib.Core.Path.{sym, ◌∙◌}
 use native.Mathlib.Omega.{arith}
 use lib.ListN.{length-take}
 use Rattle.forms.specs.Forms.{form_number}
-use Rattle.measure.specs.Measure.{FormMeasured}
 use Rattle.measure.proofs.Laws.{pool-told}
 use Rattle.measure.proofs.pool_width.Goals as goal
-
-pub returns-then-text-n : goal.returns-then-text-n
-unfolding FormMeasured
-returns-then-text-n c = tt
 
 pub slice_bounds-number-end : goal.slice_bounds-number-end
 slice_bounds-number-end c = rw length-take (omega arith)
@@ -17,7 +12,3 @@ slice_bounds-number-end c = rw length-take (omega arith)
 pub returns-then-number-eq0 : goal.returns-then-number-eq0
 unfolding form_number
 returns-then-number-eq0 c = pool-told _ _ (omega arith) (sym c.number.ensures ∙ c.if-number-eq0.true)
-
-pub returns-else-number-eq0 : goal.returns-else-number-eq0
-unfolding FormMeasured
-returns-else-number-eq0 c = tt

@@ -1,25 +1,15 @@
-use Prim.Native.Nat.{◌-◌}
-use mathlib.Core.Path.{refl, sym, ◌∙◌}
-use native.Mathlib.Omega.{arith}
-use Rattle.pool_kinds.proofs.Letters.{found, passed, ended}
-use borrow.Author.Rules.{rules}
+-- `pool_kinds::some_of` meets its contract: some letter and field beside each other are right. Assumes nothing.
+use Rattle.std.proofs.Common.{◌≡◌, ◌∙◌, rules, tests}
+use Rattle.std.proofs.lemmas.Iterator.{YieldsList-from_slice, YieldsList-from_zip}
+use Rattle.std.proofs.lemmas.Iterator.Search.{any_from_yields_List}
+use Rattle.std.specs.List.{list_any, zip}
+use Rattle.pool_kinds.proofs.Letters.{right, some-right}
 use Rattle.pool_kinds.proofs.some_of.Goals as goal
-
-pub loop-i-init : goal.loop-i-init
-loop-i-init c = (search rules, search rules, search rules, refl)
-
-pub returns-then-letters-i : goal.returns-then-letters-i
-returns-then-letters-i c =
-    let a = c.args in
-    sym (found a.letter a.is a.letters a.there c.loop-i.i (omega arith) (omega arith) c.if-letters-i.true) ∙ c.loop-i.invariant.3
-
-pub loop-i-preserved : goal.loop-i-preserved
-loop-i-preserved c =
-    let a = c.args in
-    let inv = c.loop-i.invariant in
-    (omega arith, inv.1, inv.2, passed a.letter a.is a.letters a.there c.loop-i.i (omega arith) (omega arith) c.if-letters-i.false ∙ inv.3)
 
 pub returns : goal.returns
 returns c =
     let a = c.args in
-    sym (ended a.letter a.is a.letters a.there c.loop-i.i (omega arith)) ∙ c.loop-i.invariant.3
+    let found : c.any.result ≡ list_any (right a.letter a.is) (zip a.letters a.there) =
+    any_from_yields_List (right a.letter a.is) c.any.new.self _ c.any.result c.any.ensures.ran (YieldsList-from_zip (YieldsList-from_slice a.letters cc) (YieldsList-from_slice a.there cc)) (λ x b q k. search (rules, tests))
+    in
+    found ∙ some-right a.letter a.is a.letters a.there

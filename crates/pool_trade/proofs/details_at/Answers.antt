@@ -1,7 +1,6 @@
 -- `pool_trade::details_at` meets its contract: each field is what its function ensures. Assumes nothing.
 use Rattle.pool_trade.specs.Records.{trade_of}
 use Rattle.pool_trade.specs.Parts.{details_of}
-use borrow.Author.Rules.{rules}
 use Rattle.pool_trade.proofs.details_at.Goals as goal
 
 pub returns : goal.returns

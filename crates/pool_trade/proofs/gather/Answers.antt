@@ -1,7 +1,6 @@
 -- `pool_trade::gather` meets its contract: the parts are those of the record. Assumes nothing.
 use Rattle.pool_trade.specs.Records.{trade_of}
 use Rattle.pool_trade.specs.Parts.{details_of, security_of}
-use borrow.Author.Rules.{rules}
 use Rattle.pool_trade.proofs.gather.Goals as goal
 
 pub returns : goal.returns

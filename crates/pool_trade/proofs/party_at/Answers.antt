@@ -1,6 +1,5 @@
 -- `pool_trade::party_at` meets its contract. Assumes nothing.
 use Rattle.pool_trade.specs.Records.{party_of}
-use borrow.Author.Rules.{rules}
 use Rattle.pool_trade.proofs.party_at.Goals as goal
 
 pub returns : goal.returns

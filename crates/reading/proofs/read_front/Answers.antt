@@ -9,13 +9,13 @@ use Rattle.reading.proofs.read_front.Goals as goal
 
 pub slice_bounds-judge-end : goal.slice_bounds-judge-end
 slice_bounds-judge-end g c =
-    sym (length-take-le _ _ (glanced-within (of g.T.MessageType.shape) g.met.T.MessageType.readable _ _ _ _ _ c.in-Is.is c.at_a_look.ensures))
+    sym (length-take-le _ _ (glanced-within (of g.T.MessageType.shape) g.met.T.MessageType.readable _ _ _ _ _ c.in-Some.is c.at_a_look.ensures))
 
-pub returns-in-Is : goal.returns-in-Is
+pub returns-in-Some : goal.returns-in-Some
 unfolding judged
-returns-in-Is g c =
+returns-in-Some g c =
     let F = of g.T.MessageType.shape in
-    fronted F _ (glanced-front F g.met.T.MessageType.readable _ _ _ _ _ c.in-Is.is c.at_a_look.ensures) c.judge.ensures
+    fronted F _ (glanced-front F g.met.T.MessageType.readable _ _ _ _ _ c.in-Some.is c.at_a_look.ensures) c.judge.ensures
 
 pub slice_bounds-piece-end : goal.slice_bounds-piece-end
 slice_bounds-piece-end g c = sym (length-take-le _ _ (front-within _ _ c.piece_end-end.ensures))

@@ -8,4 +8,4 @@ pub returns-then-n-message : goal.returns-then-n-message
 unfolding pass refused
 returns-then-n-message g c =
     let none = c.requires in
-    glanced-body (of g.T.MessageType.shape) g.met.T.MessageType.readable _ _ _ _ _ c.in-Is.is (rw (none.0, none.1) at c.at_a_look.ensures) c.if-n-message.true
+    glanced-body (of g.T.MessageType.shape) g.met.T.MessageType.readable _ _ _ _ _ c.in-Some.is (rw (none.0, none.1) at c.at_a_look.ensures) c.if-n-message.true

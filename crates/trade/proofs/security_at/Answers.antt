@@ -1,7 +1,6 @@
 -- `trade::security_at` meets its contract: each field is what its function ensures. Assumes nothing.
 use Rattle.trade.specs.Records.{trade_of}
 use Rattle.trade.specs.Parts.{security_of}
-use Rattle.amount.proofs.Par.of.Reads as Par-of-reads
 use Rattle.trade.proofs.security_at.Goals as goal
 
 pub returns : goal.returns

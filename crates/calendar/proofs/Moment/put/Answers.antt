@@ -1,7 +1,6 @@
 -- `calendar::Moment::put` meets its contract. Assumes nothing.
 use native.Mathlib.Omega.{arith}
 use mathlib.Core.Path.{sym, ◌∙◌}
-use Rattle.calendar.specs.Dates.{moment_text}
 use Rattle.calendar.proofs.Laws.{moment-small}
 use Rattle.calendar.proofs.Moment.put.Goals as goal
 
@@ -10,11 +9,3 @@ overflow_mul-self c = omega (arith, moment-small _ (sym c.in_form.ensures ∙ c.
 
 pub overflow_add-self : goal.overflow_add-self
 overflow_add-self c = omega (arith, moment-small _ (sym c.in_form.ensures ∙ c.if-in_form.true))
-
-pub returns-then-in_form : goal.returns-then-in_form
-unfolding moment_text
-returns-then-in_form c = rw (← c.in_form.ensures, c.if-in_form.true) c.put_digits.ensures
-
-pub returns-else-in_form : goal.returns-else-in_form
-unfolding moment_text
-returns-else-in_form c = rw (← c.in_form.ensures, c.if-in_form.false) c.put.ensures

@@ -37,8 +37,8 @@ date_in-requires c =
     in
     let n = size in (omega arith, all)
 
-pub returns-in_default : goal.returns-in_default
-returns-in_default c =
+pub returns-in_err-date : goal.returns-in_err-date
+returns-in_err-date c =
     let size : length c.args.part.now ≡ 14 =
     c.if-part-ne14.false
     in
@@ -47,7 +47,7 @@ returns-in_default c =
     overlap s (sym c.all_in.ensures ∙ not-false _ c.if-not-all_in.false-raw)
     (sym (ap (all_in Digit) (rest_of 6 _ s refl)) ∙ sym c.all_in-2.ensures ∙ not-false _ c.if-not-all_in-2.false-raw)
     in
-    no-date _ size all (sym c.date_in.ensures ∙ c.in_default.is)
+    c.from_residual.ensures ∙ no-date _ size all (sym c.in_err-date.ensures)
 
 pub time_in-requires : goal.time_in-requires
 time_in-requires c =
@@ -62,8 +62,8 @@ time_in-requires c =
     let n = size in
     (omega arith, all)
 
-pub returns-in_default-time_in : goal.returns-in_default-time_in
-returns-in_default-time_in c =
+pub returns-in_err-time : goal.returns-in_err-time
+returns-in_err-time c =
     let size : length c.args.part.now ≡ 14 =
     c.if-part-ne14.false
     in
@@ -72,7 +72,7 @@ returns-in_default-time_in c =
     overlap s (sym c.all_in.ensures ∙ not-false _ c.if-not-all_in.false-raw)
     (sym (ap (all_in Digit) (rest_of 6 _ s refl)) ∙ sym c.all_in-2.ensures ∙ not-false _ c.if-not-all_in-2.false-raw)
     in
-    no-time _ size all _ (sym c.date_in.ensures ∙ c.in-Good.is) (sym c.time_in.ensures ∙ c.in_default-time_in.is)
+    c.from_residual-in_err-time.ensures ∙ no-time _ size all _ (sym c.in_ok-date.ensures) (sym c.in_err-time.ensures)
 
 pub returns : goal.returns
 returns c =
@@ -84,4 +84,4 @@ returns c =
     overlap s (sym c.all_in.ensures ∙ not-false _ c.if-not-all_in.false-raw)
     (sym (ap (all_in Digit) (rest_of 6 _ s refl)) ∙ sym c.all_in-2.ensures ∙ not-false _ c.if-not-all_in-2.false-raw)
     in
-    moment-good _ size all _ (sym c.date_in.ensures ∙ c.in-Good.is) _ (sym c.time_in.ensures ∙ c.in-Is.is)
+    moment-good _ size all _ (sym c.in_ok-date.ensures) _ (sym c.in_ok-time.ensures)

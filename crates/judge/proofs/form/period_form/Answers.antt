@@ -2,10 +2,10 @@
 use Rattle.values.specs.Writable.{period_form}
 use Rattle.judge.proofs.form.period_form.Goals as goal
 
-pub returns-in-Absent : goal.returns-in-Absent
+pub returns-in-None : goal.returns-in-None
 unfolding period_form
-returns-in-Absent c = rw c.in-Absent.is
+returns-in-None c = rw c.in-None.is
 
-pub returns-in-Days : goal.returns-in-Days
+pub returns-in-Some : goal.returns-in-Some
 unfolding period_form
-returns-in-Days c = rw c.in-Days.is
+returns-in-Some c = rw c.in-Some.is

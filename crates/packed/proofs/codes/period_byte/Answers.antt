@@ -8,10 +8,10 @@ use Rattle.packed.proofs.codes.period_byte.Goals as goal
 pub overflow_cast-result : goal.overflow_cast-result
 overflow_cast-result c = let l : c.at_most.result ≤ 254 = rw c.at_most.ensures (at-most-le 254 _) in omega arith
 
-pub returns-in-Absent : goal.returns-in-Absent
+pub returns-in-None : goal.returns-in-None
 unfolding period_byte
-returns-in-Absent c = rw c.in-Absent.is
+returns-in-None c = rw c.in-None.is
 
-pub returns-in-Days : goal.returns-in-Days
+pub returns-in-Some : goal.returns-in-Some
 unfolding period_byte
-returns-in-Days c = rw c.in-Days.is c.at_most.ensures
+returns-in-Some c = rw c.in-Some.is c.at_most.ensures

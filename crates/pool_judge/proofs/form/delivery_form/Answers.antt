@@ -2,10 +2,10 @@
 use Rattle.pool_values.specs.Writable.{delivery_form}
 use Rattle.pool_judge.proofs.form.delivery_form.Goals as goal
 
-pub returns-in-Absent : goal.returns-in-Absent
+pub returns-in-None : goal.returns-in-None
 unfolding delivery_form
-returns-in-Absent c = rw c.in-Absent.is
+returns-in-None c = rw c.in-None.is
 
-pub returns-in-On : goal.returns-in-On
+pub returns-in-Some : goal.returns-in-Some
 unfolding delivery_form
-returns-in-On c = rw c.in-On.is c.in_form.ensures
+returns-in-Some c = rw c.in-Some.is c.in_form.ensures

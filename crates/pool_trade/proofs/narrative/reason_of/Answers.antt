@@ -1,6 +1,5 @@
 -- `pool_trade::narrative::reason_of` meets its contract. Assumes nothing.
 use Rattle.pool_trade.specs.Narrative.{reason_of}
-use borrow.Author.Rules.{rules}
 use Rattle.pool_trade.proofs.narrative.reason_of.Goals as goal
 
 pub returns : goal.returns

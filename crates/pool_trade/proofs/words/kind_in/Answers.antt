@@ -1,7 +1,6 @@
 -- `pool_trade::words::kind_in` meets its contract. Assumes nothing.
 use Rattle.text.specs.Bytes.{bytes}
 use Rattle.pool_trade.proofs.CodeWords.{kind-is, kind-else}
-use borrow.Author.Rules.{rules}
 use Rattle.std.proofs.Common.{arith}
 use Rattle.pool_trade.proofs.words.kind_in.Goals as goal
 

@@ -6,13 +6,13 @@ use Rattle.typed.proofs.Widths.{date-most}
 use Rattle.pool_values.specs.Values.{delivery_text}
 use Rattle.pool_values.proofs.narrative.put_delivery.Goals as goal
 
-pub returns-in-Absent : goal.returns-in-Absent
+pub returns-in-None : goal.returns-in-None
 unfolding delivery_text
-returns-in-Absent c = rw c.in-Absent.is c.put.ensures
+returns-in-None c = rw c.in-None.is c.put.ensures
 
-pub returns-in-On : goal.returns-in-On
+pub returns-in-Some : goal.returns-in-Some
 unfolding delivery_text bytes
-returns-in-On c =
-    let short = date-most c.in-On.date in
+returns-in-Some c =
+    let short = date-most c.in-Some.date in
     let room = c.requires in
-    rw c.in-On.is (two _ _ (bytes "/DDTE") _ c.put-next.ensures c.put-in-On.ensures (omega arith))
+    rw c.in-Some.is (two _ _ (bytes "/DDTE") _ c.put-next.ensures c.put-in-Some.ensures (omega arith))

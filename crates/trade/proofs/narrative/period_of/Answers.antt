@@ -18,4 +18,4 @@ returns-then-digit-le48 c =
 
 pub returns : goal.returns
 unfolding period_of
-returns c = rw (sym c.has_period.ensures ∙ not-false _ c.if-not-has_period.false-raw, ← c.period_in-digit.ensures)
+returns c = rw (sym c.has_period.ensures ∙ not-false _ c.if-not-has_period.false-raw, ← c.period_in-digit.ensures, c.from.ensures)

@@ -4,14 +4,14 @@ use Rattle.typed.specs.Payments.{payment_text}
 use Rattle.typed.proofs.Widths.{amount-most}
 use Rattle.typed.proofs.payments.put_payment.Goals as goal
 
-pub returns-in-Absent : goal.returns-in-Absent
+pub returns-in-None : goal.returns-in-None
 unfolding payment_text
-returns-in-Absent c =
+returns-in-None c =
     let e = c.put.ensures in
-    rw c.in-Absent.is (e.0, e.1, omega arith)
+    rw c.in-None.is (e.0, e.1, omega arith)
 
-pub returns-in-Of : goal.returns-in-Of
+pub returns-in-Some : goal.returns-in-Some
 unfolding payment_text
-returns-in-Of c =
-    let e = c.put-in-Of.ensures in
-    rw c.in-Of.is (e.0, e.1, amount-most _)
+returns-in-Some c =
+    let e = c.put-in-Some.ensures in
+    rw c.in-Some.is (e.0, e.1, amount-most _)

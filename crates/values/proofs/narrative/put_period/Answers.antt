@@ -5,10 +5,10 @@ use Rattle.values.specs.Values.{period_text}
 use Rattle.fill.proofs.Runs.{two}
 use Rattle.values.proofs.narrative.put_period.Goals as goal
 
-pub returns-in-Absent : goal.returns-in-Absent
+pub returns-in-None : goal.returns-in-None
 unfolding period_text
-returns-in-Absent c = rw c.in-Absent.is c.put.ensures
+returns-in-None c = rw c.in-None.is c.put.ensures
 
-pub returns-in-Days : goal.returns-in-Days
+pub returns-in-Some : goal.returns-in-Some
 unfolding period_text bytes digits
-returns-in-Days c = rw c.in-Days.is (two _ _ (bytes "/GUPP") (digits 1 c.in-Days.days) c.put-next.ensures c.put_digits.ensures c.requires)
+returns-in-Some c = rw c.in-Some.is (two _ _ (bytes "/GUPP") (digits 1 c.in-Some.days) c.put-next.ensures c.put_digits.ensures c.requires)
