@@ -15,10 +15,10 @@ ghost use Rattle.unpacked.specs.Unpacked.{trade_from, trade_in, unpacked_of};
 use amount::{Amount, Par, Price};
 use calendar::{Date, Moment, Time};
 use mt515::Mt515;
-use writing::Writing;
 use text::Text;
 use trade::{Kind, Party, Service, Trade};
 use typed::Side;
+use writing::Writing;
 
 // The record of some bytes; the blank record where they are none.
 #[derive(Clone, Copy)]
