@@ -1,5 +1,5 @@
--- Request A3, "Plain form": demands 2 and 3 of the MT509. What the functions promise ties these to the code: `mt509::read` answers read_of,
--- `answer_message::write` answers write_number and write_length and leaves written_over, all of format's specs/ at `mt509`. Proved in
+-- Request A3, "Plain form": demands 2 and 3 of the MT509. What the functions promise ties these to the code: `reading::read` answers read_of,
+-- `writing::write` answers write_number and write_length and leaves written_over, all of format's specs/ at `mt509`. Proved in
 -- proofs/Demands.
 use Rattle.std.specs.Prelude.{ℕ, ◌≡◌, true, length}
 use Rattle.format.specs.Writing.{message_of, writable}

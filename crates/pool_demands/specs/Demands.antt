@@ -1,5 +1,5 @@
 -- Request A1: demands 2 and 3 hold within each profile, and a message is never accepted by both. What the functions promise ties these to the
--- code: `pool::read` answers read_of, `pool_message::write` answers write_number and write_length and leaves written_over, all of format's
+-- code: `reading::read` answers read_of, `writing::write` answers write_number and write_length and leaves written_over, all of format's
 -- specs/ at `pool`. Proved in proofs/Demands.
 use Rattle.std.specs.Prelude.{ℕ, ◌≡◌, true, List, length}
 use Rattle.lines.specs.Verdicts.{refused}

@@ -1,4 +1,4 @@
--- `gateway::mt515_read` meets its contract: the answer of `mt515::read`, handed out. Assumes nothing.
+-- `gateway::mt515_read` meets its contract: the answer of `reading::read`, handed out. Assumes nothing.
 use native.Mathlib.Omega.{arith}
 use mathlib.Core.Path.{ap, ◌∙◌}
 use Rattle.trade.specs.declared.Trade.{Trade}

@@ -3,7 +3,9 @@ use mathlib.Core.Path.{◌≡◌}
 use lib.ListN.{length, length-take}
 use native.Mathlib.Omega.{arith}
 use borrow.Author.Rules.{rules}
-use Rattle.lister.proofs.Laws.{farther, ends-within}
+use Rattle.batch.proofs.Answers.{farther}
+use Rattle.values.specs.Mt515.{mt515}
+use Rattle.lister.proofs.Laws.{ends-within}
 use Rattle.lister.proofs.list.Goals as goal
 
 pub loop-position-init : goal.loop-position-init
@@ -26,21 +28,21 @@ slice_bounds-write_all-end c =
 pub overflow_add-message : goal.overflow_add-message
 overflow_add-message c =
     let onward : (c.loop-position.position < c.next-answer.result.position) × (c.next-answer.result.position ≤ length c.args.batch.now) =
-    farther _ _ _ c.next-answer.ensures c.loop-position-test.true
+    farther mt515 _ _ _ c.next-answer.ensures c.loop-position-test.true
     in
     let h = onward in omega arith
 
 pub loop-position-smaller : goal.loop-position-smaller
 loop-position-smaller c =
     let onward : (c.loop-position.position < c.next-answer.result.position) × (c.next-answer.result.position ≤ length c.args.batch.now) =
-    farther _ _ _ c.next-answer.ensures c.loop-position-test.true
+    farther mt515 _ _ _ c.next-answer.ensures c.loop-position-test.true
     in
     let h = onward in omega arith
 
 pub loop-position-preserved : goal.loop-position-preserved
 loop-position-preserved c =
     let onward : (c.loop-position.position < c.next-answer.result.position) × (c.next-answer.result.position ≤ length c.args.batch.now) =
-    farther _ _ _ c.next-answer.ensures c.loop-position-test.true
+    farther mt515 _ _ _ c.next-answer.ensures c.loop-position-test.true
     in
     let sized : (c.put_row-size.result ≤ length c.put_row-size.new.buf) × (length c.put_row-size.new.buf ≡ length c.loop-position.row) =
     ends-within _ _ c.put_row-size.ensures.0 c.put_row-size.ensures.1

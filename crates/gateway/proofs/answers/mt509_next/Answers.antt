@@ -1,4 +1,4 @@
--- `gateway::answers::mt509_next` meets its contract: the answer of `answer_batch::next`, handed out. Assumes nothing.
+-- `gateway::answers::mt509_next` meets its contract: the answer of `batch::next`, handed out. Assumes nothing.
 use native.Mathlib.Omega.{arith}
 use mathlib.Core.Path.{ap, ◌∙◌}
 use Rattle.answer.specs.declared.Answer.{Answer}

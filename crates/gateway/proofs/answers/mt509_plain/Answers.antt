@@ -1,4 +1,4 @@
--- `gateway::answers::mt509_plain` meets its contract: the answer of `answer_plain::plain`, handed out. Assumes nothing.
+-- `gateway::answers::mt509_plain` meets its contract: the answer of `plain::plain`, handed out. Assumes nothing.
 use native.Mathlib.Omega.{arith}
 use mathlib.Core.Path.{ap}
 use Rattle.gateway.proofs.AnswerHanding.{plain_byte}

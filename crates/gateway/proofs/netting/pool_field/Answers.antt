@@ -1,4 +1,4 @@
--- `gateway::netting::pool_field` meets its contract: the answer of `pool_field::place`, handed out. Assumes nothing.
+-- `gateway::netting::pool_field` meets its contract: the answer of `field::place`, handed out. Assumes nothing.
 use native.Mathlib.Omega.{arith}
 use mathlib.Core.Path.{ap}
 use Rattle.field.specs.declared.Stretch.{Stretch}

@@ -1,4 +1,4 @@
--- `gateway::netting::pool_next` meets its contract: the answer of `pool_batch::next`, handed out. Assumes nothing.
+-- `gateway::netting::pool_next` meets its contract: the answer of `batch::next`, handed out. Assumes nothing.
 use native.Mathlib.Omega.{arith}
 use mathlib.Core.Path.{ap, ◌∙◌}
 use Rattle.pool_trade.specs.declared.PoolTrade.{PoolTrade}

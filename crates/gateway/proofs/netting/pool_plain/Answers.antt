@@ -1,4 +1,4 @@
--- `gateway::netting::pool_plain` meets its contract: the answer of `pool_plain::plain`, handed out. Assumes nothing.
+-- `gateway::netting::pool_plain` meets its contract: the answer of `plain::plain`, handed out. Assumes nothing.
 use native.Mathlib.Omega.{arith}
 use mathlib.Core.Path.{ap}
 use Rattle.gateway.proofs.PoolHanding.{plain_byte}

@@ -1,4 +1,4 @@
--- `gateway::netting::pool_read` meets its contract: the answer of `pool_outline::of`, handed out. Assumes nothing.
+-- `gateway::netting::pool_read` meets its contract: the answer of `outline::of`, handed out. Assumes nothing.
 use native.Mathlib.Omega.{arith}
 use mathlib.Core.Path.{ap}
 use Rattle.outline.specs.declared.Outline.{Outline}
