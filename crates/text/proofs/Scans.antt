@@ -23,7 +23,8 @@ use Rattle.text.proofs.Laws.{drop-replicate, rest_of}
 use Rattle.text.specs.Bytes.{begins, same, before}
 use Rattle.text.specs.Classes.{in_class, all_in}
 use Rattle.text.specs.Copy.{over, fits, placed, after}
-use Rattle.text.specs.Texts.{padded, fills, blank, text_of}
+use Rattle.text.specs.Texts.{padded, fills, none, padded_of}
+use Rattle.text.specs.declared.Padded.{Padded}
 use Rattle.text.specs.declared.Class.{Class}
 use Rattle.text.specs.declared.Class.TheVariants.{Zero}
 
@@ -110,14 +111,14 @@ padded-of room s bytes len h e f =
     let r = le-leb (0 + length s) (length (replicate {A = ℕ} room 0)) g in
     (f ∙ rw (r, zero-add, drop-replicate (length s) room 0), e ∙ rw (r, zero-add))
 
-pub text-of : (s bytes : List ℕ) (len : ℕ) → length s ≤ 20 → len ≡ after (replicate {A = ℕ} 20 0) 0 s → bytes ≡ placed (replicate {A = ℕ} 20 0) 0 s
-    → record { bytes = bytes; len = len } ≡ text_of s
-unfolding text_of
-text-of s bytes len h e f = let p = padded-of 20 s bytes len h e f in rw (le-leb (length s) 20 h, p.0, p.1)
+pub room_of : (room : ℕ) (s bytes : List ℕ) (len : ℕ) → length s ≤ room → len ≡ after (replicate {A = ℕ} room 0) 0 s → bytes ≡ placed (replicate {A = ℕ} room 0) 0 s
+    → ◌≡◌ {A = Padded room} (record { bytes = bytes; len = len }) (padded_of room s)
+unfolding padded_of
+room_of room s bytes len h e f = let p = padded-of room s bytes len h e f in rw (le-leb (length s) room h, p.0, p.1)
 
-pub no_text : (s : List ℕ) → 20 < length s → blank ≡ text_of s
-unfolding text_of
-no_text s h = rw (lt-leb (length s) 20 h)
+pub no_room : (room : ℕ) (s : List ℕ) → room < length s → none room ≡ padded_of room s
+unfolding padded_of
+no_room room s h = rw (lt-leb (length s) room h)
 
 -- bytes fill their room where no test of it fails, tried one after the other
 module _ (good : Bool) (room least most : ℕ) (bytes : List ℕ) (len : ℕ) (n : length bytes ≡ room) where
