@@ -3,7 +3,7 @@ use Rattle.std.specs.Prelude.{ℕ, ◌≡◌, Bool, true, false, cond, List, [],
 use Prim.Native.String.{String}
 use Rattle.text.specs.Bytes.{bytes}
 use Rattle.text.specs.Texts.{text_of}
-use Rattle.text.specs.declared.Text.{Text}
+use Rattle.text.specs.Texts.{Text}
 use Rattle.remark.specs.Remarks.{remark_of}
 use Rattle.answer.specs.Records.{function_slot, status_slot, receiver_slot, answer_of, no_reason}
 use Rattle.answer.specs.declared.Reason.{Reason}

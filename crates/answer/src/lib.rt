@@ -58,7 +58,7 @@ struct Links {
 impl Reason {
     pub const BLANK: Reason = Reason {
         code: Text::BLANK,
-        text: Remark::BLANK,
+        text: remark::BLANK,
     };
 }
 
@@ -112,7 +112,7 @@ fn reason_in<'a, 'b>(
 {
     Reason {
         code: typed::text_at(message, starts, ends, code),
-        text: Remark::of(stretches::stretch(message, starts, ends, text)),
+        text: remark::of(stretches::stretch(message, starts, ends, text)),
     }
 }
 

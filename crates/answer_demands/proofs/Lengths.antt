@@ -13,7 +13,7 @@ use Rattle.text.specs.Bytes.{bytes, begins, same}
 use Rattle.text.proofs.Bools.{is_false, or_case, or_left, or_right}
 use Rattle.text.proofs.Laws.{same-eq}
 use Rattle.remark.specs.Remarks.{contents as remark_text}
-use Rattle.remark.specs.declared.Remark.{Remark}
+use Rattle.remark.specs.Remarks.{Remark}
 use Rattle.lines.specs.Lines.{joined}
 use Rattle.forms.proofs.Widths as Widths
 use Rattle.forms.proofs.Widths.{form_width, bounded}

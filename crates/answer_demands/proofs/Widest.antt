@@ -3,7 +3,7 @@
 use mathlib.Core.Path.{refl}
 use Rattle.text.specs.Bytes.{bytes, begins, same, before}
 use Rattle.text.specs.Classes.{is_between, is_digit, is_upper, is_c, is_hyphened, in_class, all_in, is_code}
-use Rattle.text.specs.Texts.{contents, text_of, in_form_of, in_form as text_form}
+use Rattle.text.specs.Texts.{contents, text_of, in_form_of, in_form as text_form, padded_of}
 use Rattle.remark.specs.Remarks.{remark_of, contents as remark_text, in_form as remark_form}
 use Rattle.digits.specs.Numerals.{digits, ten_to}
 use Rattle.calendar.specs.Dates.{year, month, day, leap, is_month, february, is_long, month_length, is_date, is_time, is_moment, moment_text}
@@ -29,5 +29,5 @@ use Rattle.answer_values.specs.Writable.{stands, reason_tests, tests, in_form}
 use Rattle.answer_demands.specs.Widest.{broad, said, widest, Measured}
 
 pub measured : Measured
-unfolding bytes begins same before is_between is_digit is_upper is_c is_hyphened in_class all_in is_code contents text_of text_form in_form_of remark_of remark_text remark_form digits ten_to year month day leap is_month february is_long month_length is_date is_time is_moment moment_text prep_form joined refused pass then when unless form_number field_slots own_slots member_slots slots_of first_slots must_slots line_of lines_in has some any_field any_member any_in filled_fields filled_members filled chain repeated optional fitted fitted_in hold behind_in head_line lines_for message_of judge_of no_reason reason_at statuses status_text status_form of_cancel is_reject has_reason lacks_reason has_forbidden record_pass function_of slots header slot_of reasons status general tree reason_values values value_of stands reason_tests tests in_form broad said widest
+unfolding bytes begins same before is_between is_digit is_upper is_c is_hyphened in_class all_in is_code contents padded_of text_form in_form_of digits ten_to year month day leap is_month february is_long month_length is_date is_time is_moment moment_text prep_form joined refused pass then when unless form_number field_slots own_slots member_slots slots_of first_slots must_slots line_of lines_in has some any_field any_member any_in filled_fields filled_members filled chain repeated optional fitted fitted_in hold behind_in head_line lines_for message_of judge_of no_reason reason_at statuses status_text status_form of_cancel is_reject has_reason lacks_reason has_forbidden record_pass function_of slots header slot_of reasons status general tree reason_values values value_of stands reason_tests tests in_form broad said widest
 measured = (refl, refl)

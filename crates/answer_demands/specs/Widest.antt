@@ -3,7 +3,7 @@ use Rattle.std.specs.Prelude.{ℕ, ◌≡◌, Bool, true, false, List, [], ◌�
 use Prim.Native.String.{String}
 use Rattle.text.specs.Bytes.{bytes}
 use Rattle.text.specs.Texts.{text_of}
-use Rattle.text.specs.declared.Text.{Text}
+use Rattle.text.specs.Texts.{Text}
 use Rattle.remark.specs.Remarks.{remark_of}
 use Rattle.format.specs.Writing.{message_of, judge_of}
 use Rattle.answer.specs.Records.{no_reason}

@@ -11,7 +11,7 @@ use lib.ListN.{take, drop}
 use borrow.Author.Tests.{not-true, not-false}
 use Rattle.text.specs.Texts.{in_form_of, in_form as text_form}
 use Rattle.text.specs.declared.Class.TheVariants.{Hyphened, Printed}
-use Rattle.text.specs.declared.Text.{Text}
+use Rattle.text.specs.Texts.{Text}
 use Rattle.remark.specs.Remarks.{in_form as remark_form}
 use Rattle.lines.specs.declared.Verdict.{Verdict}
 use Rattle.lines.proofs.Rules.{goes_on}

@@ -13,11 +13,11 @@ use Rattle.text.specs.Classes.{all_in, is_all, is_code}
 use Rattle.text.specs.Texts.{fills, contents, in_form_of, in_form as text_form}
 use Rattle.text.specs.declared.Class.{Class}
 use Rattle.text.specs.declared.Class.TheVariants.{C, Printed}
-use Rattle.text.specs.declared.Text.{Text}
+use Rattle.text.specs.Texts.{Text}
 use Rattle.text.proofs.Bools.{alike, or_case, or-one, or-two}
 use Rattle.text.proofs.Laws.{and_left, and_right, and_both, fills-facts, length_front}
 use Rattle.remark.specs.Remarks.{contents as remark_text, in_form as remark_form}
-use Rattle.remark.specs.declared.Remark.{Remark}
+use Rattle.remark.specs.Remarks.{Remark}
 use Rattle.forms.specs.Forms.{Slot, codes, characters, unless, form_number}
 use Rattle.forms.proofs.Laws.{unless-good}
 use Rattle.sheets.specs.Trees.{Tree}
@@ -109,7 +109,7 @@ module _ (tree : Tree) (slot_of : ℕ → Slot) (slot : ℕ) (lacking : may_lack
 
   pub fitted-remark : (most : ℕ) (r : Remark) → (slot_of slot).form ≡ characters Printed 1 most
       → fitted_in tree slot_of slot (remark_form 0 35 r) (remark_text r) ≡ remark_form 0 most r
-  unfolding fitted_in remark_form remark_text form_number
+  unfolding fitted_in in_form_of remark_text form_number
   fitted-remark most r is =
       let wrong : form_number (slot_of slot).form (remark_text r) ≡ unless (is_all Printed 1 most (remark_text r)) = rw is in
       rw lacking

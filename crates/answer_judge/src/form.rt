@@ -37,7 +37,7 @@ fn reason_form(reason: Reason, before: bool) -> bool
 {
     let absent = reason.code.in_form(0, 0);
     let four = reason.code.in_form(4, 4);
-    let text = reason.text.in_form(0, 35);
+    let text = remark::in_form(reason.text, 0, 35);
     let stands = 0 < reason.code.len;
     let silent = reason.text.len == 0;
     ((absent | four) & (!stands | before)) & (text & (silent | stands))

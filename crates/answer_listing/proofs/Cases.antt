@@ -1,7 +1,7 @@
 -- The rows are as the table says, by computation. Assumes nothing.
 use mathlib.Core.Path.{refl}
 use Rattle.text.specs.Bytes.{bytes}
-use Rattle.text.specs.Texts.{contents, text_of}
+use Rattle.text.specs.Texts.{contents, text_of, padded_of}
 use Rattle.digits.specs.Numerals.{digits}
 use Rattle.amount.specs.Amounts.{trimmed}
 use Rattle.remark.specs.Remarks.{remark_of}
@@ -13,5 +13,5 @@ use Rattle.answer_listing.specs.Rows.{heading, without_issuer, codes_of, standin
 use Rattle.answer_listing.specs.Cases.{Answered}
 
 pub answered : Answered
-unfolding bytes contents text_of digits trimmed remark_of statuses status_text no_reason never blank_answer answer_of_r spaced decimal shown heading without_issuer codes_of standing joined told untold fields_of printed_row
+unfolding bytes contents padded_of digits trimmed statuses status_text no_reason never blank_answer answer_of_r spaced decimal shown heading without_issuer codes_of standing joined told untold fields_of printed_row
 answered = (refl, refl, refl, refl, refl)

@@ -13,7 +13,7 @@ use borrow.Author.Tests.{eq-eqb, ne_eqb, lt-ltb, le-ltb}
 use Rattle.text.specs.Bytes.{bytes}
 use Rattle.text.specs.Texts.{contents, text_of}
 use Rattle.text.specs.Copy.{over, fits, placed}
-use Rattle.text.specs.declared.Text.{Text}
+use Rattle.text.specs.Texts.{Text}
 use Rattle.text.proofs.Codes.{contents-short}
 use Rattle.text.proofs.Laws.{rest_of, contents-of, length-placed}
 use Rattle.status.specs.Statuses.{status_text}

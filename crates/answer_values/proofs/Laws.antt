@@ -10,7 +10,7 @@ use lib.Dec.{eqb}
 use lib.ListN.{length, drop, get_or}
 use Rattle.text.specs.Bytes.{bytes, begins, same}
 use Rattle.text.specs.Texts.{contents, text_of, in_form_of}
-use Rattle.text.specs.declared.Text.{Text}
+use Rattle.text.specs.Texts.{Text}
 use Rattle.text.specs.declared.Class.TheVariants.{Hyphened}
 use Rattle.text.proofs.Laws.{and_left, and_right, and_both, form-back}
 use Rattle.calendar.specs.Dates.{moment_text}

@@ -13,14 +13,14 @@ use borrow.Author.Tests.{le-leb, lt-ltb, ne_eqb, eq-eqb, eqb-true}
 use Rattle.text.specs.Classes.{is_all, all_in}
 use Rattle.text.specs.Texts.{contents, text_of}
 use Rattle.text.specs.declared.Class.TheVariants.{Printed}
-use Rattle.text.specs.declared.Text.{Text}
+use Rattle.text.specs.Texts.{Text}
 use Rattle.text.proofs.Bools.{or-one, or-two}
 use Rattle.text.proofs.Laws.{and_left, and_right, and_both, length-contents}
 use Rattle.forms.specs.Forms as Forms
 use Rattle.forms.specs.Forms.{characters, form_number}
 use Rattle.forms.proofs.Laws.{unless-good}
 use Rattle.remark.specs.Remarks.{remark_of, contents as remark_text, in_form as remark_form}
-use Rattle.remark.specs.declared.Remark.{Remark}
+use Rattle.remark.specs.Remarks.{Remark}
 use Rattle.remark.proofs.Laws as Remarks
 use Rattle.sheets.specs.Slots.{slots_of}
 use Rattle.sheets.specs.Sheets.{has}

@@ -1,11 +1,11 @@
 -- Request A3, "The record" and "Writing", number 18: a record field is outside its slot's values or the forms of the record.
 use Rattle.std.specs.Prelude.{ℕ, zero, suc, Bool, true, ◌&&◌, ◌||◌, not, List, [], ◌∷◌, ◌++◌, ltb, eqb, length}
 use Rattle.text.specs.Texts.{contents, in_form_of}
-use Rattle.text.specs.declared.Text.{Text}
+use Rattle.text.specs.Texts.{Text}
 use Rattle.text.specs.declared.Class.TheVariants.{Hyphened}
 use Rattle.typed.specs.Prep.{prep_form}
 use Rattle.remark.specs.Remarks.{contents as remark_text, in_form as remark_form}
-use Rattle.remark.specs.declared.Remark.{Remark}
+use Rattle.remark.specs.Remarks.{Remark}
 use Rattle.format.specs.Writable as AnyType
 use Rattle.format.specs.Writable.{hold}
 use Rattle.status.specs.Statuses.{status_form}

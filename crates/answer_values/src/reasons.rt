@@ -18,7 +18,7 @@ fn put_reason(text: &mut [u8], places: &mut [usize], at: usize, k: usize, reason
         × (length (flatten (contents reason.code ∷ remark_text reason.text ∷ [])) ≤ 55) }
 {
     let code = placing::put_text(text, at, reason.code);
-    let remark = reason.text.put(text, code);
+    let remark = remark::put(text, code, reason.text);
     placing::keep(places, k, &[code, remark]);
     remark
 }

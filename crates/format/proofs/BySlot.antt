@@ -14,7 +14,7 @@ use lib.Seq.{drop-drop}
 use borrow.Author.Tests.{le-leb, leb-true, ltb-true, eqb-true, eqb-false, eq-eqb}
 use Rattle.text.specs.Classes.{all_in, is_code}
 use Rattle.text.specs.Texts.{contents, text_of, in_form as text_form}
-use Rattle.text.specs.declared.Text.{Text}
+use Rattle.text.specs.Texts.{Text}
 use Rattle.text.specs.declared.Class.TheVariants.{C}
 use Rattle.text.proofs.Bools.{alike, or_case, or-one, or-two}
 use Rattle.text.proofs.Codes.{code-text, text-code}

@@ -12,7 +12,7 @@ use lib.Dec.{ltb, eqb}
 use lib.ListN.{length, replicate, length-append, length-replicate}
 use borrow.Author.Tests.{ltb-false, eqb-true, eqb-false}
 use Rattle.text.specs.Texts.{contents}
-use Rattle.text.specs.declared.Text.{Text}
+use Rattle.text.specs.Texts.{Text}
 use Rattle.lines.specs.Lines.{joined}
 use Rattle.forms.proofs.Widths.{form_width, bounded, form-width}
 use Rattle.sheets.specs.Sheets.{lines_in, has}

@@ -16,7 +16,7 @@ use Rattle.text.specs.Classes.{all_in, is_all}
 use Rattle.text.specs.Texts.{contents, text_of, in_form_of, in_form as text_form}
 use Rattle.text.specs.declared.Class.{Class}
 use Rattle.text.proofs.Codes.{all_most, all-class}
-use Rattle.text.specs.declared.Text.{Text}
+use Rattle.text.specs.Texts.{Text}
 use Rattle.text.proofs.Bools.{or_case, or-two}
 use Rattle.text.proofs.Laws as Texts
 use Rattle.text.proofs.Laws.{and_left, and_right}

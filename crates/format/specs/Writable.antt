@@ -1,7 +1,7 @@
 -- Document 01, number 18, of any message type: a text of the record against its slot, and tests that hold together.
 use Rattle.std.specs.Prelude.{ℕ, Bool, true, ◌&&◌, ◌||◌, List, [], ◌∷◌, eqb, length}
 use Rattle.text.specs.Texts.{contents, in_form}
-use Rattle.text.specs.declared.Text.{Text}
+use Rattle.text.specs.Texts.{Text}
 use Rattle.forms.specs.Forms.{Slot, form_number}
 use Rattle.sheets.specs.Trees.{Tree}
 use Rattle.format.specs.Format.{may_lack}

@@ -3,7 +3,7 @@
 use mathlib.Core.Path.{refl}
 use Rattle.text.specs.Bytes.{bytes}
 use Rattle.text.specs.Classes.{is_between, is_digit, is_upper, is_c, in_class, all_in, is_code}
-use Rattle.text.specs.Texts.{contents, text_of, in_form as text_form}
+use Rattle.text.specs.Texts.{contents, text_of, in_form as text_form, padded_of}
 use Rattle.amount.specs.Amounts.{in_form as amount_form}
 use Rattle.calendar.specs.Dates.{year, month, day, leap, is_month, february, is_long, month_length, is_date, is_time, is_moment, earlier}
 use Rattle.digits.specs.Numerals.{digits}
@@ -26,5 +26,5 @@ use Rattle.format.specs.Writing.{judge_of}
 use Rattle.judge.specs.Cases.{trade, cases, Answered}
 
 pub answered : Answered
-unfolding b trade cases bytes is_between is_digit is_upper is_c in_class all_in contents text_of text_form amount_form year month day leap is_month february is_long month_length is_date is_time is_moment earlier digits refused pass then nobody never blank_trade other own contra stray lacks_field tddk_only tddk_never has_forbidden when record_pass kind_word side_word service_word period_text reason_text narrative values value_of prep_form period_form reason_form tests hold in_form judge_of fitted is_code unless form_number slot_of slots field_slots own_slots member_slots slots_of first_slots must_slots tree general pool details has
+unfolding b trade cases bytes is_between is_digit is_upper is_c in_class all_in contents padded_of text_form amount_form year month day leap is_month february is_long month_length is_date is_time is_moment earlier digits refused pass then nobody never blank_trade other own contra stray lacks_field tddk_only tddk_never has_forbidden when record_pass kind_word side_word service_word period_text reason_text narrative values value_of prep_form period_form reason_form tests hold in_form judge_of fitted is_code unless form_number slot_of slots field_slots own_slots member_slots slots_of first_slots must_slots tree general pool details has
 answered = refl

@@ -5,7 +5,7 @@ use mathlib.Core.Bool.{Bool, ◌&&◌}
 use mathlib.Core.List.{List, [], ◌∷◌}
 use lib.ListN.{take, drop}
 use Rattle.text.specs.Texts.{in_form as text_form}
-use Rattle.text.specs.declared.Text.{Text}
+use Rattle.text.specs.Texts.{Text}
 use Rattle.sheets.specs.Slots.{field_slots, own_slots, member_slots, slots_of, first_slots, must_slots}
 use Rattle.sheets.specs.Sheets.{has}
 use Rattle.table.specs.Table.{slots, slot_of}

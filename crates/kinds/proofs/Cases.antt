@@ -2,12 +2,12 @@
 -- Assumes nothing.
 use mathlib.Core.Path.{refl}
 use Rattle.text.specs.Bytes.{bytes, same}
-use Rattle.text.specs.Texts.{text_of}
+use Rattle.text.specs.Texts.{text_of, padded_of}
 use Rattle.calendar.specs.Dates.{year, month, day, earlier}
 use Rattle.lines.specs.Verdicts.{refused, pass, then, when}
 use Rattle.kinds.specs.Kinds.{other, own, contra, stray, function_of, lacks_field, tddk_only, tddk_never, has_forbidden, record_pass, kinds_pass}
 use Rattle.kinds.specs.Cases.{trade, cases, Answered}
 
 pub answered : Answered
-unfolding trade cases bytes same text_of year month day earlier refused pass then other own contra stray function_of lacks_field tddk_only tddk_never has_forbidden when record_pass kinds_pass
+unfolding trade cases bytes same padded_of year month day earlier refused pass then other own contra stray function_of lacks_field tddk_only tddk_never has_forbidden when record_pass kinds_pass
 answered = refl

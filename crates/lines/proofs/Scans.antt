@@ -11,11 +11,11 @@ use native.Mathlib.Omega.{arith}
 use lib.Dec.{leb, eqb, eqb-suc-zero}
 use lib.ListN.{length, take, drop, get_or, length-drop, drop_of_length-le}
 use lib.Seq.{get_or-drop, drop-drop, length-take-le}
-use Rattle.std.specs.Prelude.{Option, not}
+use Rattle.std.specs.Prelude.{Option, Some, None, not}
 use Rattle.std.specs.List.{position, prefix_len}
 use Rattle.std.proofs.lemmas.List.Sums.{prefix_len-le-length, prefix_len_passes, prefix_len_stops}
 use Rattle.text.proofs.Scans.{place-is}
-use Rattle.std.specs.Option.{unwrap_or}
+use Rattle.std.specs.Option.{unwrap_or, option_map, option_or}
 use borrow.Author.Tests.{le-leb, lt-leb, eq-eqb, ne_eqb, eqb-true}
 use Rattle.text.specs.Bytes.{bytes, begins, same, before}
 use Rattle.text.specs.Classes.{is_between}
@@ -225,79 +225,66 @@ ended-last : (m : List ℕ) → 0 < length m → ended m ≡ eqb (get_or m (leng
 ended-last [] h = absurd (not-suc-le-zero h)
 ended-last (b ∷ s) h = let n : suc (length s) - 1 ≡ length s = omega arith in rw n (ended_is b s)
 
--- behind the last line, whose number is `last`, where the first line that is `-` is `end`, 0 for none
-abbrev pub closed : Bool → ℕ → ℕ → Verdict
-closed e end last = cond (eqb end 0) (refused 3 last) (cond (eqb end last && e) pass (refused 3 end))
+-- behind the last line, whose number is `last`, where `end` is the first line that is `-`
+abbrev pub closed : Bool → Option ℕ → ℕ → Verdict
+closed e end last = unwrap_or (option_map (λ k. cond (eqb k last && e) pass (refused 3 k)) end) (refused 3 last)
 
-pub closed_none : (e : Bool) (end last : ℕ) → end ≡ 0 → refused 3 last ≡ closed e end last
-closed_none e end last z = rw z
-
-module _ (m : List ℕ) (end last : ℕ) (some : end ≡ 0 → ⊥) where
-  pub closed-early : (end ≡ last → ⊥) → refused 3 end ≡ closed (ended m) end last
-  closed-early h = rw (ne_eqb end 0 some, ne_eqb end last h)
+module _ (m : List ℕ) (end last : ℕ) where
+  pub closed_early : (end ≡ last → ⊥) → refused 3 end ≡ closed (ended m) (Some end) last
+  closed_early h = rw (ne_eqb end last h)
 
   module _ (h : end ≡ last) (l : 0 < length m) where
-    pub closed-open : (get_or m (length m - 1) 0 ≡ 10 → ⊥) → refused 3 end ≡ closed (ended m) end last
-    closed-open n = rw (ne_eqb end 0 some, eq-eqb end last h, ended-last m l, ne_eqb _ _ n)
+    pub closed_open : (get_or m (length m - 1) 0 ≡ 10 → ⊥) → refused 3 end ≡ closed (ended m) (Some end) last
+    closed_open n = rw (eq-eqb end last h, ended-last m l, ne_eqb _ _ n)
 
-    pub closed-good : get_or m (length m - 1) 0 ≡ 10 → pass ≡ closed (ended m) end last
-    closed-good n = rw (ne_eqb end 0 some, eq-eqb end last h, ended-last m l, eq-eqb _ _ n)
+    pub closed_good : get_or m (length m - 1) 0 ≡ 10 → pass ≡ closed (ended m) (Some end) last
+    closed_good n = rw (eq-eqb end last h, ended-last m l, eq-eqb _ _ n)
 
 -- the first line that is `-` when one more line, `line`, is known
-abbrev pub first_end : ℕ → ℕ → List ℕ → ℕ
-first_end known line text = cond (eqb known 0 && same (bytes "-") text) line known
-
-module _ (known line : ℕ) (text : List ℕ) where
-  pub first-known : (known ≡ 0 → ⊥) → known ≡ first_end known line text
-  first-known h = rw (ne_eqb known 0 h)
-
-  pub first-here : known ≡ 0 → same (bytes "-") text ≡ true → line ≡ first_end known line text
-  first-here h e = rw (eq-eqb known 0 h, e)
-
-  pub first-none : same (bytes "-") text ≡ false → known ≡ first_end known line text
-  first-none e = rw (e, and-false (eqb known 0))
+abbrev pub first_end : Option ℕ → ℕ → List ℕ → Option ℕ
+first_end known line text = option_or known (cond (same (bytes "-") text) (Some line) None)
 
 -- so over the lines behind line n
-unfoldable pub closing : Bool → ℕ → ℕ → List (List ℕ) → Verdict
+unfoldable pub closing : Bool → Option ℕ → ℕ → List (List ℕ) → Verdict
 closing e end n [] = closed e end n
 closing e end n (l ∷ ls) = closing e (first_end end (suc n) l) (suc n) ls
 
 -- a `-` that has lines behind it is early
-closing-early : (e : Bool) (end n : ℕ) (ls : List (List ℕ)) → (end ≡ 0 → ⊥) → end < n → closing e end n ls ≡ refused 3 end
+closing-early : (e : Bool) (end n : ℕ) (ls : List (List ℕ)) → end < n → closing e (Some end) n ls ≡ refused 3 end
 unfolding closing
-closing-early e end n [] some h = rw (ne_eqb end 0 some, ne_eqb end n (λ x. omega (arith, h, x)))
-closing-early e end n (l ∷ ls) some h = rw (ne_eqb end 0 some) (closing-early e end (suc n) ls some (omega arith))
+closing-early e end n [] h = rw (ne_eqb end n (λ x. omega (arith, h, x)))
+closing-early e end n (l ∷ ls) h = closing-early e end (suc n) ls (omega arith)
 
-closing-is : (e : Bool) (n : ℕ) (l : List ℕ) (ls : List (List ℕ)) → closing e 0 n (l ∷ ls) ≡ end_pass e (suc n) (l ∷ ls)
+closing-is : (e : Bool) (n : ℕ) (l : List ℕ) (ls : List (List ℕ)) → closing e None n (l ∷ ls) ≡ end_pass e (suc n) (l ∷ ls)
 unfolding closing end_pass
 closing-is e n l [] = at (same (bytes "-") l)
   where
-    at : (t : Bool) → closed e (cond t (suc n) 0) (suc n) ≡ cond (t && e) pass (refused 3 (suc n))
-    at true = rw (eqb-suc-zero n, eq-eqb (suc n) (suc n) refl)
+    at : (t : Bool) → closed e (cond t (Some (suc n)) None) (suc n) ≡ cond (t && e) pass (refused 3 (suc n))
+    at true = rw (eq-eqb (suc n) (suc n) refl)
     at false = refl
 closing-is e n l (k ∷ ls) = at (closing-is e (suc n) k ls) (same (bytes "-") l)
   where
-    at : closing e 0 (suc n) (k ∷ ls) ≡ end_pass e (suc (suc n)) (k ∷ ls) → (t : Bool)
-        → closing e (cond t (suc n) 0) (suc n) (k ∷ ls) ≡ cond t (refused 3 (suc n)) (end_pass e (suc (suc n)) (k ∷ ls))
-    at ih true = rw (eqb-suc-zero n) (closing-early e (suc n) (suc (suc n)) ls (λ x. omega (arith, x)) (omega arith))
+    at : closing e None (suc n) (k ∷ ls) ≡ end_pass e (suc (suc n)) (k ∷ ls) → (t : Bool)
+        → closing e (cond t (Some (suc n)) None) (suc n) (k ∷ ls) ≡ cond t (refused 3 (suc n)) (end_pass e (suc (suc n)) (k ∷ ls))
+    at ih true = closing-early e (suc n) (suc (suc n)) ls (omega arith)
     at ih false = ih
 
 -- ---- bytes and end together, from a line on
 
 -- the answer for what is left from a place on, behind line n
-abbrev pub left : List ℕ → ℕ → ℕ → ℕ → Verdict
+abbrev pub left : List ℕ → ℕ → Option ℕ → ℕ → Verdict
 left m n end at = then (byte_pass (n + 1) (drop at m)) (closing (ended m) end n (lines_of (drop at m)))
 
 -- a turn from there on, with k bytes of text and an ending of c bytes: it stops, or it grows and goes on behind the ending
-pub record Turn (m : List ℕ) (n end at k c : ℕ) (text : List ℕ) : Type 0 where
+pub record Turn (m : List ℕ) (n : ℕ) (end : Option ℕ) (at k c : ℕ) (text : List ℕ) : Type 0 where
   pub stops : c ≡ 3 → refused 2 (n + 1) ≡ left m n end at
   pub grows : (c ≡ 3 → ⊥) → (0 < k + c) × (at + (k + c) ≤ length m)
-  pub goes_on : (c ≡ 3 → ⊥) → (known : ℕ) → known ≡ first_end end (n + 1) text → left m (n + 1) known (at + (k + c)) ≡ left m n end at
+  pub goes_on : (c ≡ 3 → ⊥) → (known : Option ℕ) → known ≡ first_end end (n + 1) text → left m (n + 1) known (at + (k + c)) ≡ left m n end at
 
-pub left-all : (m : List ℕ) → 0 < length m → left m 0 0 0 ≡ then (byte_pass 1 m) (end_pass (ended m) 1 (lines_of m))
+pub left-all : (m : List ℕ) → 0 < length m → left m 0 None 0 ≡ then (byte_pass 1 m) (end_pass (ended m) 1 (lines_of m))
 left-all m h = rw (lines_step m h, closing-is (ended m) 0)
 
-module _ (m : List ℕ) (n end at : ℕ) where
+module _ (m : List ℕ) (n : ℕ) (end : Option ℕ) (at : ℕ) where
   pub left-none : length m ≤ at → closed (ended m) end n ≡ left m n end at
   unfolding closing byte_pass then pass refused
   left-none h = rw (lines-behind m at h, drop_of_length-le m h)

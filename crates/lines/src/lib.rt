@@ -3,7 +3,8 @@
 // What is right stands in specs/Verdicts and specs/Lines.
 #![tactic(auto)]
 
-ghost use Rattle.std.specs.Prelude.{◌≡◌, true, false, ◌&&◌, cond, ℕ, ◌≤◌, ◌<◌, eqb, length, get_or};
+ghost use Rattle.std.specs.Prelude.{◌≡◌, true, false, ◌&&◌, cond, ℕ, ◌≤◌, ◌<◌, eqb, length, get_or, Some, None};
+ghost use Rattle.std.specs.Option.{option_or, option_map, unwrap_or};
 ghost use Rattle.text.specs.Bytes.{bytes, same};
 ghost use Rattle.text.specs.Classes.{is_between};
 ghost use Rattle.lines.specs.Verdicts.{refused, pass, then};
@@ -96,44 +97,34 @@ pub fn ending(part: &[u8]) -> usize
     NO_ENDING
 }
 
-// The first line that is `-`, 0 for none: the one that is known, or else this line.
-fn first_end(known: usize, line: usize, text: &[u8]) -> usize
-    ensures { result ≡ cond (eqb known 0 && same (bytes "-") text.now) line known }
+// The first line that is `-`: the one that is known, or else this line.
+#[tactic(auto, unfolding(text::specs::Bytes::bytes))]
+fn first_end(known: Option<usize>, line: usize, text: &[u8]) -> Option<usize>
+    ensures { result ≡ option_or known (cond (same (bytes "-") text.now) (Some line) None) }
 {
-    if known != 0 {
-        return known;
+    if known.is_none() && text::equals(text, b"-") {
+        Some(line)
+    } else {
+        known
     }
-    if text::equals(text, b"-") {
-        return line;
-    }
-    known
 }
 
-// 3, at `end`, the first line that is `-`, if it is not the last or has no ending; at the last line if there is none, which 0
-// stands for.
-fn check_end(message: &[u8], end: usize, last: usize) -> Verdict
+// 3, at `end`, the first line that is `-`, if it is not the last or has no ending; at the last line if there is none.
+#[tactic(auto, using(crate::proofs::Scans::closed_early, crate::proofs::Scans::closed_open, crate::proofs::Scans::closed_good), unfolding(crate::specs::Verdicts::refused, crate::specs::Verdicts::pass))]
+fn check_end(message: &[u8], end: Option<usize>, last: usize) -> Verdict
     requires { 0 < length message.now }
-    ensures { result ≡ cond (eqb end 0) (refused 3 last) (cond (eqb end last && ended message.now) pass (refused 3 end)) }
+    ensures { result ≡ unwrap_or (option_map (λ k. cond (eqb k last && ended message.now) pass (refused 3 k)) end) (refused 3 last) }
 {
-    if end == 0 {
+    let Some(line) = end else {
         return Verdict {
             number: 3,
             line: last,
         };
+    };
+    if line == last && message[message.len() - 1] == b'\n' {
+        return Verdict::PASS;
     }
-    if end != last {
-        return Verdict {
-            number: 3,
-            line: end,
-        };
-    }
-    if message[message.len() - 1] != b'\n' {
-        return Verdict {
-            number: 3,
-            line: end,
-        };
-    }
-    Verdict::PASS
+    Verdict { number: 3, line }
 }
 
 // 2, at the first line with a byte that may not stand where it stands, and else 3. A `-` before the end is remembered and said
@@ -143,7 +134,7 @@ fn check_lines(message: &[u8]) -> Verdict
     ensures { result ≡ then (byte_pass 1 message.now) (end_pass (ended message.now) 1 (lines_of message.now)) }
 {
     let mut line = 0;
-    let mut end = 0;
+    let mut end = None;
     let mut at = 0;
     // From line to line, where `at` jumps: no range or iterator gives its places.
     while at < message.len() {

@@ -1,7 +1,7 @@
 -- The sample's rows are what document 01 prints, by computation. Assumes nothing.
 use mathlib.Core.Path.{refl}
 use Rattle.text.specs.Bytes.{bytes}
-use Rattle.text.specs.Texts.{contents, text_of}
+use Rattle.text.specs.Texts.{contents, text_of, padded_of}
 use Rattle.digits.specs.Numerals.{digits}
 use Rattle.amount.specs.Amounts.{trimmed}
 use Rattle.trade.specs.Records.{nobody, blank_trade}
@@ -11,5 +11,5 @@ use Rattle.listing.specs.Rows.{spaced, heading, decimal, shown, told, untold, fi
 use Rattle.listing.specs.Cases.{Answered}
 
 pub answered : Answered
-unfolding bytes contents text_of digits trimmed nobody blank_trade kind_word trade_of_b spaced heading decimal shown told untold fields_of printed_row
+unfolding bytes contents padded_of digits trimmed nobody blank_trade kind_word trade_of_b spaced heading decimal shown told untold fields_of printed_row
 answered = (refl, refl, refl, refl)

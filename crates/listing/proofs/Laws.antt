@@ -9,7 +9,7 @@ use borrow.Author.Tests.{eq-eqb, ne_eqb}
 use Rattle.text.specs.Bytes.{bytes}
 use Rattle.text.specs.Texts.{contents, text_of}
 use Rattle.text.specs.Copy.{placed}
-use Rattle.text.specs.declared.Text.{Text}
+use Rattle.text.specs.Texts.{Text}
 use Rattle.text.proofs.Codes.{contents-short}
 use Rattle.text.proofs.Laws.{placed-all, rest_of, contents-of}
 use Rattle.digits.specs.Numerals.{digits}

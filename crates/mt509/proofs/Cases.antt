@@ -31,8 +31,8 @@ use Rattle.calendar.specs.Dates.{year, month, day, leap, is_month, february, is_
 use Rattle.digits.specs.Numerals.{numeral_from, numeral, number_of, wide_number, ten_to}
 use Rattle.text.specs.Bytes.{bytes, begins, same, before, parts}
 use Rattle.text.specs.Classes.{is_between, is_digit, is_upper, is_c, is_hyphened, in_class, all_in, is_code, printed_class}
-use Rattle.text.specs.Texts.{text_of}
+use Rattle.text.specs.Texts.{text_of, padded_of}
 
 pub answered : Answered
-unfolding AnyType.reading AnyType.body_of AnyType.value_on AnyType.rules_of AnyType.verdict_of AnyType.read_of head_verdict head_pass head_value any_front goes_on strays stops bar_number chain lead_key repeated body_pass taken_in r removed moved Cases.reasons ended without with behind exchanged cases answer_of_r reasons status general tree slots header slot_of value_verdict values_pass value_from in_front cut_behind bare without_ending lines_of ended-lines joined size_pass may_stand byte_pass end_pass lines_pass line_at refused pass then when is_tagged name_of named role_of ending opening closing turn follow nest nest_pass with_taken fit next seek later_field tell move_of following walk taken_by has lacking is_code word_at is_word unless form_number value_number statuses status_of status_text remark_of reason_of reasons_of answer_of no_reason never blank_answer reason_at of_cancel goes_with is_reject has_reason lacks_reason has_forbidden record_pass answer_pass year month day leap is_month february is_long month_length is_date is_time is_moment date_from date_read moment_of moment_from moment_read numeral_from numeral number_of wide_number ten_to bytes begins same before parts is_between is_digit is_upper is_c is_hyphened in_class all_in printed_class text_of tidy_behind tidy_line plain_lines plain_of ahead through first_begins block_with blocks_with any_line past arranged in_order links
+unfolding AnyType.reading AnyType.body_of AnyType.value_on AnyType.rules_of AnyType.verdict_of AnyType.read_of head_verdict head_pass head_value any_front goes_on strays stops bar_number chain lead_key repeated body_pass taken_in r removed moved Cases.reasons ended without with behind exchanged cases answer_of_r reasons status general tree slots header slot_of value_verdict values_pass value_from in_front cut_behind bare without_ending lines_of ended-lines joined size_pass may_stand byte_pass end_pass lines_pass line_at refused pass then when is_tagged name_of named role_of ending opening closing turn follow nest nest_pass with_taken fit next seek later_field tell move_of following walk taken_by has lacking is_code word_at is_word unless form_number value_number statuses status_of status_text padded_of reason_of reasons_of answer_of no_reason never blank_answer reason_at of_cancel goes_with is_reject has_reason lacks_reason has_forbidden record_pass answer_pass year month day leap is_month february is_long month_length is_date is_time is_moment date_from date_read moment_of moment_from moment_read numeral_from numeral number_of wide_number ten_to bytes begins same before parts is_between is_digit is_upper is_c is_hyphened in_class all_in printed_class tidy_behind tidy_line plain_lines plain_of ahead through first_begins block_with blocks_with any_line past arranged in_order links
 answered = record { verdicts = refl; endings = refl; lengths = refl; plain = refl }

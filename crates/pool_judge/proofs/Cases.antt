@@ -3,7 +3,7 @@
 use mathlib.Core.Path.{refl}
 use Rattle.text.specs.Bytes.{bytes}
 use Rattle.text.specs.Classes.{is_between, is_digit, is_upper, is_c, in_class, all_in, is_code}
-use Rattle.text.specs.Texts.{contents, text_of, in_form as text_form}
+use Rattle.text.specs.Texts.{contents, text_of, in_form as text_form, padded_of}
 use Rattle.amount.specs.Amounts.{in_form as amount_form}
 use Rattle.calendar.specs.Dates.{year, month, day, leap, is_month, february, is_long, month_length, is_date, is_time, is_moment, earlier, date_text}
 use Rattle.digits.specs.Numerals.{digits}
@@ -25,5 +25,5 @@ use Rattle.format.specs.Writing.{judge_of}
 use Rattle.pool_judge.specs.Cases.{trade, cases, Answered}
 
 pub answered : Answered
-unfolding p trade cases bytes is_between is_digit is_upper is_c in_class all_in is_code contents text_of text_form amount_form year month day leap is_month february is_long month_length is_date is_time is_moment earlier date_text digits refused pass then when reason_text reason_form unless form_number payment_form field_slots own_slots member_slots slots_of first_slots must_slots has nobody blank_trade other own contra stray needs there some_of lacks_field has_forbidden record_pass slots slot_of general security details tree cdr_text delivery_text narrative values value_of fitted hold delivery_form tests in_form judge_of
+unfolding p trade cases bytes is_between is_digit is_upper is_c in_class all_in is_code contents padded_of text_form amount_form year month day leap is_month february is_long month_length is_date is_time is_moment earlier date_text digits refused pass then when reason_text reason_form unless form_number payment_form field_slots own_slots member_slots slots_of first_slots must_slots has nobody blank_trade other own contra stray needs there some_of lacks_field has_forbidden record_pass slots slot_of general security details tree cdr_text delivery_text narrative values value_of fitted hold delivery_form tests in_form judge_of
 answered = refl

@@ -6,7 +6,7 @@
 --   17  settles before the trade date
 use Rattle.std.specs.Prelude.{ℕ, Bool, true, false, ◌&&◌, ◌||◌, not, cond, List, [], ◌∷◌, ltb, eqb}
 use Rattle.text.specs.Bytes.{bytes, same}
-use Rattle.text.specs.declared.Text.{Text}
+use Rattle.text.specs.Texts.{Text}
 use Rattle.calendar.specs.Dates.{earlier}
 use Rattle.lines.specs.Verdicts.{then, when}
 use Rattle.lines.specs.declared.Verdict.{Verdict}

@@ -3,7 +3,7 @@
 use mathlib.Core.Path.{refl}
 use Rattle.text.specs.Bytes.{bytes, before}
 use Rattle.text.specs.Classes.{is_between, is_digit, is_upper, is_c, in_class, all_in, is_code}
-use Rattle.text.specs.Texts.{contents, text_of, in_form as in_form-texts}
+use Rattle.text.specs.Texts.{contents, text_of, in_form as in_form-texts, padded_of}
 use Rattle.digits.specs.Numerals.{digits, ten_to}
 use Rattle.amount.specs.Amounts.{whole, decimals, trimmed, kept_before, shortened, tidy, in_form as in_form-amounts, spread, amount_text}
 use Rattle.calendar.specs.Dates.{year, month, day, leap, is_month, february, is_long, month_length, is_date, is_time, earlier, is_moment, date_text, moment_text}
@@ -29,5 +29,5 @@ use Rattle.pool_values.specs.Cases.{p}
 use Rattle.pool_message.specs.Cases.{broad, broadest, widest, lines_of_p, writes, Answered}
 
 pub answered : Answered
-unfolding bytes before is_between is_digit is_upper is_c in_class all_in is_code contents text_of in_form-texts digits ten_to whole decimals trimmed kept_before shortened tidy in_form-amounts spread amount_text year month day leap is_month february is_long month_length is_date is_time earlier is_moment date_text moment_text reason_text reason_form joined refused pass then when unless form_number payment_text payment_form side_word field_slots own_slots member_slots slots_of first_slots must_slots line_of lines_in has some any_field any_member any_in filled_fields filled_members filled optional fitted hold behind_in head_line lines_for message_of judge_of write_number write_length nobody blank_trade other own contra stray function_of needs there some_of lacks_field has_forbidden record_pass slots header slot_of general security details tree kind_word cdr_text delivery_text narrative values value_of delivery_form tests in_form p broad broadest widest lines_of_p writes
+unfolding bytes before is_between is_digit is_upper is_c in_class all_in is_code contents padded_of in_form-texts digits ten_to whole decimals trimmed kept_before shortened tidy in_form-amounts spread amount_text year month day leap is_month february is_long month_length is_date is_time earlier is_moment date_text moment_text reason_text reason_form joined refused pass then when unless form_number payment_text payment_form side_word field_slots own_slots member_slots slots_of first_slots must_slots line_of lines_in has some any_field any_member any_in filled_fields filled_members filled optional fitted hold behind_in head_line lines_for message_of judge_of write_number write_length nobody blank_trade other own contra stray function_of needs there some_of lacks_field has_forbidden record_pass slots header slot_of general security details tree kind_word cdr_text delivery_text narrative values value_of delivery_form tests in_form p broad broadest widest lines_of_p writes
 answered = record { lines = refl; judged = refl; lengths = refl; numbers = refl; written = refl }

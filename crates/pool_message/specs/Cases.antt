@@ -5,7 +5,7 @@ use Rattle.std.specs.Prelude.{ℕ, ◌≡◌, Bool, true, false, List, [], ◌�
 use Prim.Native.String.{String}
 use Rattle.text.specs.Bytes.{bytes}
 use Rattle.text.specs.Texts.{text_of}
-use Rattle.text.specs.declared.Text.{Text}
+use Rattle.text.specs.Texts.{Text}
 use Rattle.typed.specs.declared.Side.{Side}
 use Rattle.format.specs.Writing.{lines_for, message_of, judge_of, write_number, write_length}
 use Rattle.pool_trade.specs.Records.{blank_trade}

@@ -2,7 +2,7 @@
 -- has a CDR status is told by the mark itself (forms' specs/Pool).
 use Rattle.std.specs.Prelude.{ℕ, cond, List, Option, Some, None}
 use Rattle.text.specs.Texts.{text_of}
-use Rattle.text.specs.declared.Text.{Text}
+use Rattle.text.specs.Texts.{Text}
 use Rattle.calendar.specs.Dates.{date_read}
 use Rattle.reason.specs.Reason.{reason_in}
 use Rattle.forms.specs.Pool.{has_delivery, delivery_in, behind_delivery}

@@ -2,7 +2,7 @@
 -- Assumes nothing.
 use mathlib.Core.Path.{refl}
 use Rattle.text.specs.Bytes.{bytes, before}
-use Rattle.text.specs.Texts.{contents, text_of}
+use Rattle.text.specs.Texts.{contents, text_of, padded_of}
 use Rattle.digits.specs.Numerals.{digits}
 use Rattle.amount.specs.Amounts.{whole, decimals, trimmed, kept_before, shortened, tidy, in_form, spread, amount_text}
 use Rattle.calendar.specs.Dates.{year, month, day, leap, is_month, february, is_long, month_length, is_date, is_time, is_moment, date_text, moment_text}
@@ -14,5 +14,5 @@ use Rattle.pool_values.specs.Values.{kind_word, cdr_text, delivery_text, narrati
 use Rattle.pool_values.specs.Cases.{p, full, cases, Answered}
 
 pub answered : Answered
-unfolding p full cases bytes before contents text_of digits whole decimals trimmed kept_before shortened tidy in_form spread amount_text year month day leap is_month february is_long month_length is_date is_time is_moment date_text moment_text reason_text payment_text side_word function_of kind_word cdr_text delivery_text narrative values
+unfolding p full cases bytes before contents padded_of digits whole decimals trimmed kept_before shortened tidy in_form spread amount_text year month day leap is_month february is_long month_length is_date is_time is_moment date_text moment_text reason_text payment_text side_word function_of kind_word cdr_text delivery_text narrative values
 answered = refl

@@ -11,7 +11,7 @@ use lib.Dec.{ltb}
 use lib.ListN.{length, length-append}
 use Rattle.std.proofs.Common.{Option, Some, None}
 use Rattle.text.specs.Bytes.{bytes}
-use Rattle.text.specs.declared.Text.{Text}
+use Rattle.text.specs.Texts.{Text}
 use Rattle.calendar.specs.Dates.{date_read, date_number, date_text}
 use Rattle.calendar.proofs.Laws.{date-round}
 use Rattle.reason.specs.Reason.{good_reason, reason_text, reason_form}

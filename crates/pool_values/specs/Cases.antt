@@ -3,7 +3,7 @@ use Prim.Native.String.{String}
 use Rattle.std.specs.Prelude.{◌≡◌, true, List, [], ◌∷◌, map, Some}
 use Rattle.text.specs.Bytes.{bytes}
 use Rattle.text.specs.Texts.{text_of}
-use Rattle.text.specs.declared.Text.{Text}
+use Rattle.text.specs.Texts.{Text}
 use Rattle.typed.specs.declared.Side.{Side}
 use Rattle.pool_trade.specs.declared.Kind.{Kind}
 use Rattle.pool_trade.specs.declared.PoolTrade.{PoolTrade}

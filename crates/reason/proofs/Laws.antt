@@ -10,9 +10,9 @@ use lib.ListN.{length, drop}
 use borrow.Author.Tests.{ltb-true, ltb-false, lt-ltb, eqb-true}
 use Rattle.text.specs.Bytes.{bytes, begins, before}
 use Rattle.text.specs.Classes.{is_between, in_class, all_in, is_code, printed}
-use Rattle.text.specs.Texts.{contents, text_of, in_form}
+use Rattle.text.specs.Texts.{contents, text_of, in_form, padded_of}
 use Rattle.text.specs.declared.Class.{Class}
-use Rattle.text.specs.declared.Text.{Text}
+use Rattle.text.specs.Texts.{Text}
 use Rattle.text.proofs.Codes.{code-most, code-all, code-text, text-code, contents-short}
 use Rattle.text.proofs.Laws.{no_bytes, begins-is, before-all, before_of, in-form-facts, length-contents, text-back}
 use Rattle.text.proofs.Printed.{codes-printed}
@@ -151,7 +151,7 @@ module _ (rest : List ℕ) (good : good_reason rest ≡ true) where
   none_in h = rw h
 
   absent : ([] ≡ reason_text (text_of [])) × (reason_form (text_of []) ≡ true)
-  unfolding reason_text reason_form text_of in_form contents all_in in_class
+  unfolding reason_text reason_form padded_of in_form contents all_in in_class
   absent = (refl, refl)
 
   pub reason-told : (reason_part rest ≡ reason_text (text_of (reason_in rest))) × (reason_form (text_of (reason_in rest)) ≡ true)

@@ -4,7 +4,7 @@ use Rattle.std.specs.Prelude.{ℕ, Bool, ◌||◌, cond, List, [], ◌++◌, eqb
 use Rattle.text.specs.Bytes.{bytes, begins}
 use Rattle.text.specs.Classes.{is_code}
 use Rattle.text.specs.Texts.{contents, in_form}
-use Rattle.text.specs.declared.Text.{Text}
+use Rattle.text.specs.Texts.{Text}
 
 unfoldable pub has_reason : List ℕ → Bool
 has_reason rest = begins (bytes "/DKRS") rest

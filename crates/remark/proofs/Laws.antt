@@ -1,51 +1,37 @@
 -- What callers cite: a remark in form and its contents tell each other, and a part that can be printed and the remark that holds it.
 -- Assumes nothing.
 use Prim.Native.Nat.{ℕ, ◌≤◌}
-use mathlib.Core.Path.{◌≡◌, refl, ◌∙◌}
+use mathlib.Core.Path.{◌≡◌, ◌∙◌}
 use mathlib.Core.Bool.{true}
 use mathlib.Core.List.{List}
 use native.Mathlib.Omega.{arith}
 use lib.Dec.{leb}
 use lib.ListN.{length, drop, length-take}
-use lib.Seq.{take_at}
 use borrow.Author.Tests.{le-leb, leb-true}
 use Rattle.text.specs.Classes.{all_in, is_all}
-use Rattle.text.specs.Texts.{padded}
 use Rattle.text.specs.declared.Class.TheVariants.{Printed, Zero}
-use Rattle.text.proofs.Laws.{and_left, and_right, fills_of, fills-facts, length_front, padded-back}
+use Rattle.text.proofs.Laws.{and_left, and_right, padded-contents, padded-form, form-facts, form-length, form-back}
 use Rattle.remark.specs.Remarks.{contents, remark_of, in_form}
-use Rattle.remark.specs.declared.Remark.{Remark}
+use Rattle.remark.specs.Remarks.{Remark}
 
 module _ (s : List ℕ) (short : length s ≤ 35) where
-  pub remark-is : remark_of s ≡ record { bytes = padded 35 s; len = length s }
-  unfolding remark_of
-  remark-is = rw (le-leb (length s) 35 short)
-
   pub contents-of : contents (remark_of s) ≡ s
-  unfolding contents
-  contents-of = rw remark-is (take_at s _ (length s) refl)
+  contents-of = padded-contents 35 s short
 
   -- a part is a remark in form exactly when it has the width and can be printed
   pub in-form-of : (least most : ℕ) → in_form least most (remark_of s) ≡ is_all Printed least most s
-  unfolding in_form
-  in-form-of least most = rw (contents-of, remark-is) (fills_of 35 s short (all_in Printed s) least most)
+  in-form-of = padded-form 35 s short Printed
 
 module _ (least most : ℕ) (r : Remark) (good : in_form least most r ≡ true) where
   pub in-form-facts : (length r.bytes ≡ 35) × (r.len ≤ 35) × (least ≤ r.len) × (r.len ≤ most) × (all_in Printed (contents r) ≡ true) × (all_in Zero (drop r.len r.bytes) ≡ true)
-  unfolding in_form
-  in-form-facts = fills-facts (all_in Printed (contents r)) 35 least most r.bytes r.len good
+  in-form-facts = form-facts Printed least most r good
 
   pub length-contents : length (contents r) ≡ r.len
-  unfolding in_form contents
-  length-contents = length_front (all_in Printed (contents r)) 35 least most r.bytes r.len good
+  length-contents = form-length Printed least most r good
 
   -- a remark in form is the remark of its contents
   pub remark-back : remark_of (contents r) ≡ r
-  unfolding in_form contents
-  remark-back =
-      let f = in-form-facts in
-      let n = length-contents in
-      remark-is (contents r) (omega arith) ∙ rw (padded-back (all_in Printed (contents r)) 35 least most r.bytes r.len good, n)
+  remark-back = form-back Printed least most r good
 
   -- and these have the width and can be printed
   pub remark-printed : is_all Printed least most (contents r) ≡ true

@@ -11,7 +11,7 @@ use lib.ListN.{length, get_or}
 use borrow.Author.Tests.{leb-true, le-leb, eqb-true, eq-eqb}
 use Rattle.text.specs.Classes.{is_between, is_digit, is_code}
 use Rattle.text.specs.Texts.{contents, text_of, in_form}
-use Rattle.text.specs.declared.Text.{Text}
+use Rattle.text.specs.Texts.{Text}
 use Rattle.text.proofs.Bools.{alike}
 use Rattle.text.proofs.Codes.{code-text, text-code}
 use Rattle.text.proofs.Laws.{and_left, and_right, and_both}

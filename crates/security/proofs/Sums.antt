@@ -16,7 +16,7 @@ use Rattle.text.specs.Classes.{is_between, is_digit, is_upper, is_c, in_class, a
 use Rattle.text.specs.Texts.{contents, in_form}
 use Rattle.text.specs.declared.Class.{Class}
 use Rattle.text.specs.declared.Class.TheVariants.{C}
-use Rattle.text.specs.declared.Text.{Text}
+use Rattle.text.specs.Texts.{Text}
 use Rattle.text.proofs.Bools.{or_case}
 use Rattle.text.proofs.Codes.{code-all, text-code}
 use Rattle.text.proofs.Laws.{and_left, and_right, in-form-facts}

@@ -4,7 +4,7 @@
 use Rattle.std.specs.Prelude.{ℕ, suc, ◌+◌, ◌-◌, ◌*◌, ◌/◌, ◌%◌, ◌≡◌, Bool, ◌&&◌, cond, List, [], ◌∷◌, ◌++◌, eqb, length, get_or}
 use Rattle.text.specs.Classes.{is_digit, is_code}
 use Rattle.text.specs.Texts.{contents, in_form}
-use Rattle.text.specs.declared.Text.{Text}
+use Rattle.text.specs.Texts.{Text}
 
 -- ---- the rule, as a sum of what each place adds. Places are counted from 1
 

@@ -13,7 +13,7 @@ use Rattle.text.specs.Classes.{all_in, is_all, is_code}
 use Rattle.text.specs.Texts.{contents, text_of, in_form}
 use Rattle.text.specs.declared.Class.{Class}
 use Rattle.text.specs.declared.Class.TheVariants.{C}
-use Rattle.text.specs.declared.Text.{Text}
+use Rattle.text.specs.Texts.{Text}
 use Rattle.text.proofs.Laws.{and_left, and_right, contents-of, in-form-of, in-form-facts, length-contents}
 
 module _ (k : Class) (least most : ℕ) (v : List ℕ) (e : is_all k least most v ≡ true) where

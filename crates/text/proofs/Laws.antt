@@ -18,7 +18,8 @@ use Rattle.text.specs.Copy.{over, fits, placed, after}
 use Rattle.text.specs.Texts.{padded, fills, contents, text_of, in_form_of, in_form}
 use Rattle.text.specs.declared.Class.{Class}
 use Rattle.text.specs.declared.Class.TheVariants.{C, Zero}
-use Rattle.text.specs.declared.Text.{Text}
+use Rattle.text.specs.Texts.{Text, padded_of}
+use Rattle.text.specs.declared.Padded.{Padded}
 
 -- ---- tests that are joined
 
@@ -283,42 +284,55 @@ module _ (good : Bool) (room least most : ℕ) (bytes : List ℕ) (len : ℕ) (f
       zeros _ f.5 ∙ ap (λ (n : ℕ). replicate {A = ℕ} n 0) (length-drop len bytes ∙ ap (λ (n : ℕ). n - len) f.0)
       in rw (length_front, ← zs, take-append-drop len bytes)
 
--- ---- texts and their contents
+-- ---- a part in its room, and what it stands for
 
-module _ (s : List ℕ) (short : length s ≤ 20) where
-  pub text-is : text_of s ≡ record { bytes = padded 20 s; len = length s }
-  unfolding text_of
-  text-is = rw (le-leb (length s) 20 short)
+module _ (room : ℕ) (s : List ℕ) (short : length s ≤ room) where
+  padded-is : padded_of room s ≡ record { bytes = padded room s; len = length s }
+  unfolding padded_of
+  padded-is = rw (le-leb (length s) room short)
 
-  pub contents-of : contents (text_of s) ≡ s
+  pub padded-contents : contents (padded_of room s) ≡ s
   unfolding contents
-  contents-of = rw text-is (take_at s _ (length s) refl)
+  padded-contents = rw padded-is (take_at s _ (length s) refl)
 
-  -- a part is a text in form exactly when it has the width and is of the class
-  pub form_of : (class : Class) (least most : ℕ) → in_form_of class least most (text_of s) ≡ (leb least (length s) && (leb (length s) most && all_in class s))
+  -- it is in form exactly when it has the width and is of the class
+  pub padded-form : (class : Class) (least most : ℕ) → in_form_of class least most (padded_of room s) ≡ (leb least (length s) && (leb (length s) most && all_in class s))
   unfolding in_form_of
-  form_of class least most = rw (contents-of, text-is) (fills_of 20 s short (all_in class s) least most)
+  padded-form class least most = rw (padded-contents, padded-is) (fills_of room s short (all_in class s) least most)
 
-  pub in-form-of : (least most : ℕ) → in_form least most (text_of s) ≡ (leb least (length s) && (leb (length s) most && all_in C s))
-  unfolding in_form in_form_of
-  in-form-of least most = form_of C least most
-
-module _ (class : Class) (least most : ℕ) (t : Text) (good : in_form_of class least most t ≡ true) where
-  pub form-facts : (length t.bytes ≡ 20) × (t.len ≤ 20) × (least ≤ t.len) × (t.len ≤ most) × (all_in class (contents t) ≡ true) × (all_in Zero (drop t.len t.bytes) ≡ true)
+module _ {room : ℕ} (class : Class) (least most : ℕ) (t : Padded room) (good : in_form_of class least most t ≡ true) where
+  pub form-facts : (length t.bytes ≡ room) × (t.len ≤ room) × (least ≤ t.len) × (t.len ≤ most) × (all_in class (contents t) ≡ true) × (all_in Zero (drop t.len t.bytes) ≡ true)
   unfolding in_form_of
-  form-facts = fills-facts (all_in class (contents t)) 20 least most t.bytes t.len good
+  form-facts = fills-facts (all_in class (contents t)) room least most t.bytes t.len good
 
   pub form-length : length (contents t) ≡ t.len
   unfolding in_form_of contents
-  form-length = length_front (all_in class (contents t)) 20 least most t.bytes t.len good
+  form-length = length_front (all_in class (contents t)) room least most t.bytes t.len good
 
-  -- a text in form is the text of its contents
-  pub form-back : text_of (contents t) ≡ t
+  -- one in form is what its contents are in that room
+  pub form-back : padded_of room (contents t) ≡ t
   unfolding in_form_of contents
   form-back =
       let f = form-facts in
       let n = form-length in
-      text-is (contents t) (omega arith) ∙ rw (padded-back (all_in class (contents t)) 20 least most t.bytes t.len good, n)
+      padded-is room (contents t) (omega arith) ∙ rw (padded-back (all_in class (contents t)) room least most t.bytes t.len good, n)
+
+-- ---- texts and their contents
+
+module _ (s : List ℕ) (short : length s ≤ 20) where
+  pub text-is : text_of s ≡ record { bytes = padded 20 s; len = length s }
+  text-is = padded-is 20 s short
+
+  pub contents-of : contents (text_of s) ≡ s
+  contents-of = padded-contents 20 s short
+
+  -- a part is a text in form exactly when it has the width and is of the class
+  pub form_of : (class : Class) (least most : ℕ) → in_form_of class least most (text_of s) ≡ (leb least (length s) && (leb (length s) most && all_in class s))
+  form_of = padded-form 20 s short
+
+  pub in-form-of : (least most : ℕ) → in_form least most (text_of s) ≡ (leb least (length s) && (leb (length s) most && all_in C s))
+  unfolding in_form in_form_of
+  in-form-of least most = form_of C least most
 
 -- of c
 module _ (least most : ℕ) (t : Text) (good : in_form least most t ≡ true) where

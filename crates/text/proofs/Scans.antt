@@ -1,7 +1,7 @@
 -- The mathematics of the crate's functions, over plain lists and numbers: what each turn of a scan says of the test of the
 -- whole part, and what a run of stores leaves in a buffer.
 -- Assumes nothing.
-use Prim.Native.Nat.{ℕ, suc, ◌+◌, ◌-◌, ◌≤◌, ◌<◌}
+use Prim.Native.Nat.{ℕ, suc, ◌+◌, ◌≤◌, ◌<◌}
 use mathlib.Core.Path.{◌≡◌, refl, sym, ap, ◌∙◌}
 use mathlib.Core.Bool.{Bool, cond, true, false, ◌&&◌, and-false, and-true, and_assoc}
 use mathlib.Core.List.{List, [], ◌∷◌}
@@ -9,7 +9,7 @@ use native.Mathlib.Numerals.{add-one}
 use native.Mathlib.Nat.{zero-add, not-suc-le-zero, le_of_suc-le-suc}
 use native.Mathlib.Omega.{arith}
 use lib.Dec.{eqb}
-use lib.ListN.{length, take, drop, get_or, replicate, length-replicate, drop_of_length-le}
+use lib.ListN.{length, drop, get_or, replicate, length-replicate, drop_of_length-le}
 use lib.Seq.{drop-cons, drop-drop}
 use borrow.Rule.Slice.PartMut.{put_mid}
 use Rattle.std.specs.List.{position_or_len, position, list_all, zip}
@@ -18,14 +18,14 @@ use Rattle.std.specs.Option.{unwrap_or}
 use Rattle.std.proofs.lemmas.List.Recursion.{is_position_or_len}
 use Rattle.std.proofs.lemmas.List.Sums.{prefix_len-le-length}
 use Rattle.std.proofs.lemmas.Bool.Decides.{nat_tests}
-use borrow.Author.Tests.{le-leb, lt-leb, eq-eqb}
-use Rattle.text.proofs.Laws.{drop-replicate, rest_of}
+use borrow.Author.Tests.{le-leb, lt-leb}
+use Rattle.text.proofs.Laws.{drop-replicate}
 use Rattle.text.specs.Bytes.{begins, same, before}
 use Rattle.text.specs.Classes.{in_class, all_in}
 use Rattle.text.specs.Copy.{over, fits, placed, after}
-use Rattle.text.specs.Texts.{padded, fills, blank, text_of}
+use Rattle.text.specs.Texts.{padded, none, padded_of}
+use Rattle.text.specs.declared.Padded.{Padded}
 use Rattle.text.specs.declared.Class.{Class}
-use Rattle.text.specs.declared.Class.TheVariants.{Zero}
 
 -- ---- every byte of a class: what was seen up to a place, and what is left
 
@@ -110,31 +110,11 @@ padded-of room s bytes len h e f =
     let r = le-leb (0 + length s) (length (replicate {A = ℕ} room 0)) g in
     (f ∙ rw (r, zero-add, drop-replicate (length s) room 0), e ∙ rw (r, zero-add))
 
-pub text-of : (s bytes : List ℕ) (len : ℕ) → length s ≤ 20 → len ≡ after (replicate {A = ℕ} 20 0) 0 s → bytes ≡ placed (replicate {A = ℕ} 20 0) 0 s
-    → record { bytes = bytes; len = len } ≡ text_of s
-unfolding text_of
-text-of s bytes len h e f = let p = padded-of 20 s bytes len h e f in rw (le-leb (length s) 20 h, p.0, p.1)
+pub room_of : (room : ℕ) (s bytes : List ℕ) (len : ℕ) → length s ≤ room → len ≡ after (replicate {A = ℕ} room 0) 0 s → bytes ≡ placed (replicate {A = ℕ} room 0) 0 s
+    → ◌≡◌ {A = Padded room} (record { bytes = bytes; len = len }) (padded_of room s)
+unfolding padded_of
+room_of room s bytes len h e f = let p = padded-of room s bytes len h e f in rw (le-leb (length s) room h, p.0, p.1)
 
-pub no_text : (s : List ℕ) → 20 < length s → blank ≡ text_of s
-unfolding text_of
-no_text s h = rw (lt-leb (length s) 20 h)
-
--- bytes fill their room where no test of it fails, tried one after the other
-module _ (good : Bool) (room least most : ℕ) (bytes : List ℕ) (len : ℕ) (n : length bytes ≡ room) where
-  pub past_room : room < len → false ≡ fills good room least most bytes len
-  past_room h = rw (eq-eqb _ _ n, lt-leb _ _ h)
-
-  module _ (l : len ≤ room) where
-    pub too_few : len < least → false ≡ fills good room least most bytes len
-    too_few h = rw (eq-eqb _ _ n, le-leb _ _ l, lt-leb _ _ h)
-
-    module _ (f : least ≤ len) where
-      pub too_many : most < len → false ≡ fills good room least most bytes len
-      too_many h = rw (eq-eqb _ _ n, le-leb _ _ l, le-leb _ _ f, lt-leb _ _ h)
-
-      module _ (m : len ≤ most) where
-        pub not_good : good ≡ false → false ≡ fills good room least most bytes len
-        not_good h = rw (eq-eqb _ _ n, le-leb _ _ l, le-leb _ _ f, le-leb _ _ m, h)
-
-        pub zeros-left : good ≡ true → (b : Bool) → b ≡ all_in Zero (take (room - len) (drop len bytes)) → b ≡ fills good room least most bytes len
-        zeros-left h b e = rw (eq-eqb _ _ n, le-leb _ _ l, le-leb _ _ f, le-leb _ _ m, h) (e ∙ ap (all_in Zero) (rest_of len room bytes n))
+pub no_room : (room : ℕ) (s : List ℕ) → room < length s → none room ≡ padded_of room s
+unfolding padded_of
+no_room room s h = rw (lt-leb (length s) room h)

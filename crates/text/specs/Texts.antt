@@ -4,7 +4,7 @@ use Rattle.std.specs.Prelude.{ℕ, ◌-◌, Bool, ◌&&◌, cond, List, ◌++◌
 use Rattle.text.specs.Classes.{all_in}
 use Rattle.text.specs.declared.Class.{Class}
 use Rattle.text.specs.declared.Class.TheVariants.{C, Zero}
-use Rattle.text.specs.declared.Text.{Text}
+use Rattle.text.specs.declared.Padded.{Padded}
 
 -- ---- in a room of so many bytes
 
@@ -18,24 +18,34 @@ abbrev pub fills : Bool → ℕ → ℕ → ℕ → List ℕ → ℕ → Bool
 fills good room least most bytes len =
     eqb (length bytes) room && (leb len room && (leb least len && (leb len most && (good && all_in Zero (drop len bytes)))))
 
--- ---- a text, which has room for twenty
+-- no part: length 0, and zero bytes in the whole room
+abbrev pub none : (room : ℕ) → Padded room
+none room = record { bytes = replicate {A = ℕ} room 0; len = 0 }
 
--- no text: length 0 and twenty zero bytes
-abbrev pub blank : Text
-blank = record { bytes = replicate {A = ℕ} 20 0; len = 0 }
-
--- the bytes that a text stands for
-unfoldable pub contents : Text → List ℕ
+-- the bytes that it stands for
+unfoldable pub contents : {room : ℕ} → Padded room → List ℕ
 contents t = take t.len t.bytes
 
--- a part of a message as a text; what is longer than any text of a record gives no text, and is never cut
-unfoldable pub text_of : List ℕ → Text
-text_of s = cond (leb (length s) 20) (record { bytes = padded 20 s; len = length s }) blank
+-- a part of a message in its room; what is longer than that gives none, and is never cut
+unfoldable pub padded_of : (room : ℕ) → List ℕ → Padded room
+padded_of room s = cond (leb (length s) room) (record { bytes = padded room s; len = length s }) (none room)
 
--- a text of a record is in form for a slot that takes from `least` to `most` bytes of a class
-unfoldable pub in_form_of : Class → ℕ → ℕ → Text → Bool
-in_form_of class least most t = fills (all_in class (contents t)) 20 least most t.bytes t.len
+-- in form for a slot that takes from `least` to `most` bytes of a class
+unfoldable pub in_form_of : {room : ℕ} → Class → ℕ → ℕ → Padded room → Bool
+in_form_of {room} class least most t = fills (all_in class (contents t)) room least most t.bytes t.len
 
 -- of c
-unfoldable pub in_form : ℕ → ℕ → Text → Bool
-in_form least most t = fills (all_in C (contents t)) 20 least most t.bytes t.len
+unfoldable pub in_form : {room : ℕ} → ℕ → ℕ → Padded room → Bool
+in_form {room} least most t = fills (all_in C (contents t)) room least most t.bytes t.len
+
+-- ---- a text, which has room for twenty
+
+abbrev pub Text : Type 0
+Text = Padded 20
+
+abbrev pub blank : Text
+blank = none 20
+
+-- a part of a message as a text; what is longer than any text of a record gives no text
+abbrev pub text_of : List ℕ → Text
+text_of = padded_of 20

@@ -7,7 +7,7 @@
 ghost use Rattle.std.specs.Prelude.{◌≡◌, ◌+◌, ◌%◌, ◌<◌, ◌≤◌, length, take, drop};
 ghost use Rattle.text.specs.Bytes.{begins, same, before, little};
 ghost use Rattle.text.specs.Classes.{is_between, is_c, is_hyphened, in_class, all_in, is_all, is_code};
-ghost use Rattle.text.specs.Texts.{contents, text_of, in_form_of, in_form};
+ghost use Rattle.text.specs.Texts.{contents, padded_of, in_form_of, in_form};
 ghost use Rattle.text.specs.Copy.{placed, after};
 
 // The classes that the values of documents 01 and 02 are made of, and the zero byte behind a text.
@@ -21,12 +21,15 @@ pub enum Class {
     Zero,
 }
 
-// A text of a record: twenty bytes, of which the first `len` are the text and the others are zero, where it is in form.
+// A part in a room of N bytes: the first `len` are the part and the others are zero, where it is in form.
 #[derive(Clone, Copy)]
-pub struct Text {
-    pub bytes: [u8; 20],
+pub struct Padded<const N: usize> {
+    pub bytes: [u8; N],
     pub len: usize,
 }
+
+// A text of a record.
+pub type Text = Padded<20>;
 
 #[tactic(auto, unfolding(crate::specs::Classes::is_between))]
 fn between(byte: u8, low: u8, high: u8) -> bool
@@ -196,43 +199,41 @@ pub fn put(buf: &mut [u8], at: usize, part: &[u8]) -> usize
     end
 }
 
-// The same of a record's text: only the text is put, and not the zero bytes behind it.
+// The same of a part in its room: only the part is put, and not the zero bytes behind it.
 #[tactic(auto, unfolding(crate::specs::Texts::contents))]
-pub fn put_text(buf: &mut [u8], at: usize, text: Text) -> usize
-    ensures { (result ≡ after buf.old at (contents text)) × (buf.new ≡ placed buf.old at (contents text)) }
+pub fn put_text<const N: usize>(buf: &mut [u8], at: usize, text: Padded<N>) -> usize
+    ensures { (result ≡ after buf.old at (contents text.entry)) × (buf.new ≡ placed buf.old at (contents text.entry)) }
 {
     let bytes = text.bytes;
     let len = text.len;
-    put(buf, at, &bytes[..len.min(20)])
+    put(buf, at, &bytes[..len.min(N)])
 }
 
-impl Text {
-    pub const BLANK: Text = Text {
-        bytes: [0; 20],
-        len: 0,
-    };
-
-    // A part of a message as a text; one that is longer than any text gives no text, and is never cut. So its width is to
-    // be judged on the part, before.
-    pub fn of(part: &[u8]) -> Text
-        ensures { result ≡ text_of part.now }
+impl<const N: usize> Padded<N> {
+    // A part of a message in a room; one that is longer gives none, and is never cut. So its width is to be judged on the part, before.
+    #[tactic(auto, using(crate::proofs::Scans::room_of, crate::proofs::Scans::no_room))]
+    pub fn of(part: &[u8]) -> Padded<N>
+        ensures { result ≡ padded_of N part.now }
     {
-        if 20 < part.len() {
-            return Text::BLANK;
+        if N < part.len() {
+            return Padded {
+                bytes: [0; N],
+                len: 0,
+            };
         }
-        let mut bytes = [0u8; 20];
+        let mut bytes = [0u8; N];
         let len = put(&mut bytes, 0, part);
-        Text { bytes, len }
+        Padded { bytes, len }
     }
 
-    // A text of a record is in form for a slot that takes from `least` to `most` bytes of a class.
+    // It is in form for a slot that takes from `least` to `most` bytes of a class.
     #[tactic(auto, using(crate::proofs::Laws::rest_of), unfolding(crate::specs::Texts::in_form_of, crate::specs::Texts::contents))]
     pub fn in_form_of(self, class: Class, least: usize, most: usize) -> bool
-        ensures { result ≡ in_form_of class least most self }
+        ensures { result ≡ in_form_of class least most self.entry }
     {
-        let bytes = self.bytes;
+        let bytes = &self.bytes[..];
         let len = self.len;
-        len <= 20
+        len <= N
             && least <= len
             && len <= most
             && all_in(class, &bytes[..len])
@@ -242,8 +243,15 @@ impl Text {
     // So it is for one that takes c.
     #[tactic(auto, unfolding(crate::specs::Texts::in_form, crate::specs::Texts::in_form_of))]
     pub fn in_form(self, least: usize, most: usize) -> bool
-        ensures { result ≡ in_form least most self }
+        ensures { result ≡ in_form least most self.entry }
     {
         self.in_form_of(Class::C, least, most)
     }
+}
+
+impl Padded<20> {
+    pub const BLANK: Text = Padded {
+        bytes: [0; 20],
+        len: 0,
+    };
 }

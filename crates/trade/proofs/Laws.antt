@@ -3,7 +3,7 @@
 use mathlib.Core.Path.{◌≡◌, refl}
 use mathlib.Core.List.{[]}
 use Rattle.text.specs.Bytes.{bytes, begins, same, before}
-use Rattle.text.specs.Texts.{text_of}
+use Rattle.text.specs.Texts.{text_of, padded_of}
 use Rattle.text.specs.Classes.{all_in}
 use Rattle.digits.specs.Numerals.{wide_number}
 use Rattle.amount.specs.Amounts.{amount_read, is_amount, whole}
@@ -16,5 +16,5 @@ use Rattle.trade.specs.Narrative.{service_of, period_of}
 use Rattle.trade.specs.Records.{kind_in, party_of, trade_of, nobody, never, blank_trade}
 
 pub blank-is : trade_of (λ slot. []) ≡ blank_trade
-unfolding bytes begins same before text_of all_in wide_number amount_read is_amount whole date_read date_from moment_read moment_from word_at service_of service_in period_of has_period reason_in has_reason behind_period kind_in side_in party_of trade_of nobody never blank_trade
+unfolding bytes begins same before padded_of all_in wide_number amount_read is_amount whole date_read date_from moment_read moment_from word_at service_of service_in period_of has_period reason_in has_reason behind_period kind_in side_in party_of trade_of nobody never blank_trade
 blank-is = refl

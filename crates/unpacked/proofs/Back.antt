@@ -12,7 +12,7 @@ use borrow.Author.Tests.{leb-true, le-leb, ltb-true, eqb-true, eqb-false, eq-eqb
 use Rattle.std.proofs.Common.{Option, Some, None}
 use Rattle.text.specs.Bytes.{parts}
 use Rattle.text.specs.Texts.{in_form as text_form}
-use Rattle.text.specs.declared.Text.{Text}
+use Rattle.text.specs.Texts.{Text}
 use Rattle.text.proofs.Laws.{and_left, and_right, and_both, in-form-facts}
 use Rattle.amount.specs.Amounts.{in_form as amount_form}
 use Rattle.amount.specs.declared.Amount.{Amount}

@@ -9,7 +9,7 @@ use lib.Dec.{leb, eqb}
 use borrow.Author.Tests.{leb-true, leb-false, le-leb, eqb-true}
 use Rattle.std.proofs.Common.{Option, Some, None}
 use Rattle.text.specs.Texts.{in_form as text_form}
-use Rattle.text.specs.declared.Text.{Text}
+use Rattle.text.specs.Texts.{Text}
 use Rattle.text.proofs.Bools.{or_case}
 use Rattle.text.proofs.Laws.{and_left, and_right, and_both, in-form-facts}
 use Rattle.calendar.specs.Dates.{is_date, is_time, is_moment, moment_of}

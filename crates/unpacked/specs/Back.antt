@@ -1,6 +1,6 @@
 -- Neither way loses anything: what packing and unpacking say of each other. Proved in proofs/Back.
 use Rattle.std.specs.Prelude.{ℕ, ◌+◌, ◌*◌, ◌≡◌, Bool, true, false, ◌&&◌, List, map, leb, eqb, length, Option, Some, None}
-use Rattle.text.specs.declared.Text.{Text}
+use Rattle.text.specs.Texts.{Text}
 use Rattle.calendar.specs.declared.Moment.{Moment}
 use Rattle.trade.specs.Records.{blank_trade}
 use Rattle.trade.specs.declared.Trade.{Trade}

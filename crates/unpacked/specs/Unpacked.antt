@@ -1,7 +1,7 @@
 -- The record of 375 bytes, by the places of packed's specs/Packed; no record, with the blank one beside it, where a code byte names no word.
 use Rattle.std.specs.Prelude.{ℕ, ◌+◌, ◌*◌, Bool, true, false, ◌&&◌, cond, List, [], ◌∷◌, map, leb, eqb, drop, get_or, Option, Some, None}
 use Rattle.text.specs.Bytes.{parts}
-use Rattle.text.specs.declared.Text.{Text}
+use Rattle.text.specs.Texts.{Text}
 use Rattle.calendar.specs.Dates.{moment_of}
 use Rattle.trade.specs.Records.{blank_trade}
 use Rattle.trade.specs.declared.Kind.{Kind}

@@ -2,7 +2,7 @@
 -- Assumes nothing.
 use mathlib.Core.Path.{refl}
 use Rattle.text.specs.Bytes.{bytes, before}
-use Rattle.text.specs.Texts.{contents, text_of}
+use Rattle.text.specs.Texts.{contents, text_of, padded_of}
 use Rattle.digits.specs.Numerals.{digits}
 use Rattle.amount.specs.Amounts.{whole, decimals, trimmed, kept_before, shortened, tidy, in_form, spread, amount_text}
 use Rattle.calendar.specs.Dates.{year, month, day, leap, is_month, february, is_long, month_length, is_date, is_time, is_moment, date_text, moment_text}
@@ -13,5 +13,5 @@ use Rattle.values.specs.Values.{kind_word, service_word, period_text, narrative,
 use Rattle.values.specs.Cases.{b, full, cases, Answered}
 
 pub answered : Answered
-unfolding b full cases bytes before contents text_of digits whole decimals trimmed kept_before shortened tidy in_form spread amount_text year month day leap is_month february is_long month_length is_date is_time is_moment date_text moment_text function_of kind_word side_word service_word period_text reason_text narrative values
+unfolding b full cases bytes before contents padded_of digits whole decimals trimmed kept_before shortened tidy in_form spread amount_text year month day leap is_month february is_long month_length is_date is_time is_moment date_text moment_text function_of kind_word side_word service_word period_text reason_text narrative values
 answered = refl

@@ -14,7 +14,7 @@ use Rattle.std.proofs.Common.{Option, Some, None}
 use Rattle.text.specs.Bytes.{bytes, begins, same}
 use Rattle.text.specs.Classes.{is_digit, is_between}
 use Rattle.text.specs.Texts.{text_of}
-use Rattle.text.specs.declared.Text.{Text}
+use Rattle.text.specs.Texts.{Text}
 use Rattle.text.proofs.Laws.{and_left, and_right, and_both, begins-append}
 use Rattle.digits.specs.Numerals.{digits}
 use Rattle.reason.specs.Reason.{reason_in, good_reason, reason_text, reason_form}

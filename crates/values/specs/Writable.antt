@@ -1,6 +1,6 @@
 -- Document 01, number 18: a record field is outside its slot's values or the forms of the record.
 use Rattle.std.specs.Prelude.{ℕ, Bool, true, ◌&&◌, List, [], ◌∷◌, leb, Option, Some, None}
-use Rattle.text.specs.declared.Text.{Text}
+use Rattle.text.specs.Texts.{Text}
 use Rattle.amount.specs.Amounts.{in_form as amount_form}
 use Rattle.calendar.specs.Dates.{is_date, is_moment}
 use Rattle.reason.specs.Reason.{reason_form}
