@@ -41,6 +41,7 @@ fn first_fault(slots: &[u8], fault: Verdict, slot: u8, line: &[u8], n: usize) ->
 }
 
 // Keeps where the value of a slot begins, behind its fixed text, and where it ends, of a line from one place to another.
+// (`walk::keep` lets slot 0 go, which no row has; the header's definitions make no such difference.)
 fn keep(slots: &[u8], starts: &mut [usize], ends: &mut [usize], slot: u8, at: usize, end: usize)
     requires { at + 16 < 2 ^ 64 }
     ensures { (starts.new ≡ set starts.old slot (at + length (slot_at slots.now slot).fixed)) × (ends.new ≡ set ends.old slot end) }
