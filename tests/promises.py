@@ -24,7 +24,7 @@ LOOSE = "## Promises that allow two results"
 # what is no code: comments, byte strings and strings, byte literals
 SILENT = re.compile(r'//[^\n]*|/\*.*?\*/|"(?:\\.|[^"\\])*"|\bb\'(?:\\x[0-9A-Fa-f]{2}|\\.|[^\\\'\n])\'', re.S)
 FUNCTION = re.compile(r'\bpub\s+(?:extern\s+"[^"]*"\s+)?fn\s+(\w+)')
-IMPL = re.compile(r'\bimpl\s+(\w+)[^{;]*\{')
+IMPL = re.compile(r'\bimpl\b(?:<[^>{;]*>)?\s+(\w+)[^{;]*\{')
 CLAUSE = re.compile(r'\b(requires|ensures)\b|[\[({;]')
 EQUATION = re.compile(r'(result|result\.now|\w+\.new) ≡ (.*)', re.S)
 AFTERWARDS = re.compile(r'(?<![\w.-])result(?![\w-])|\.(?:new|exit)\b')
