@@ -18,6 +18,7 @@ fn list(batch: &[u8]) {
     let mut row = [0u8; 357];
     let mut message: u64 = 1;
     let mut position = 0;
+    // A message says where the next one begins, so that no range tells the places.
     while position < batch.len() {
         let found = batch::next::<Mt509>(batch, position);
         let size = answer_listing::put_row(&mut row, message, found.reading);

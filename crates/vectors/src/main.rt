@@ -85,6 +85,7 @@ fn next_name(input: &[u8], from: usize) -> usize
     ensures { (from ≤ result) × (result ≤ length input.now) }
 {
     let mut at = from;
+    // A line says where the next one begins, so that no range tells the places.
     while at < input.len() {
         if text::begins_with(&input[at..], b"# ") {
             return at;
@@ -104,6 +105,7 @@ fn say_name(line: &[u8]) {
 
 fn say_all(input: &[u8]) {
     let mut at = 0;
+    // Here too, so that no range tells the places.
     while at < input.len() {
         let name = lines::line_at(input, at);
         let end = name.end;
