@@ -137,7 +137,6 @@ fn time_in(part: &[u8]) -> Option<u64>
 
 impl Date {
     // The number is a day of the calendar.
-    #[tactic(auto, unfolding(crate::specs::Dates::is_date, crate::specs::Dates::year, crate::specs::Dates::month, crate::specs::Dates::day))]
     pub fn in_form(self) -> bool
         ensures { result ≡ is_date self.0 }
     {

@@ -80,8 +80,8 @@ pub fn put_digits(buf: &mut [u8], at: usize, width: usize, number: u64) -> usize
     if buf.len() - at < width {
         return at;
     }
-    // By place: of a mutable iterator from the back the proof did not close, since it tells what the buffer holds only at its end.
     let mut rest = number;
+    // By place: over a mutable iterator from the back the proof did not close, since it tells what the buffer holds only at its end.
     for left in (0..width).rev() {
         buf[at + left] = b'0' + (rest % 10) as u8;
         rest /= 10;

@@ -20,6 +20,7 @@ pub fn word_at(words: &[u8], value: &[u8]) -> usize
     ensures { result ≡ word_at (words_of words.now) value.now }
 {
     let count = words.len() / 4;
+    // By place: over `chunks_exact` the proof did not close, since a loop knows such parts by the iterator's own state alone.
     for i in 0..count {
         let at = i * 4;
         if text::equals(value, &words[at..at + 4]) {

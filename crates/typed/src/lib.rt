@@ -78,7 +78,8 @@ pub fn amount_at<'a, 'b>(
     Amount::read(stretches::stretch(message, starts, ends, slot)).unwrap_or(Amount::ZERO)
 }
 
-// A payment, a sum of money that need not be there; a sum of zero is there. Absent where there is no value, and a sum of zero where the value is none.
+// A payment, a sum of money that need not be there; a sum of zero is there. None where there is no value, and a sum of zero where the
+// value is none.
 pub fn payment_at<'a, 'b>(
     message: &'a [u8],
     starts: &'b [usize],
