@@ -37,7 +37,7 @@ fn move_amounts<T: MessageType>(message: &[u8], starts: &mut [usize], ends: &mut
 }
 
 // Puts a message with lent values, a text and for each slot where its value begins and ends, from the start of the buffer.
-fn put<'a, T: MessageType>(
+pub fn put<'a, T: MessageType>(
     buf: &mut [u8],
     text: &[u8],
     starts: &'a [usize],

@@ -25,7 +25,7 @@ pub struct Front<H> {
 }
 
 // Takes a message up to its values, by the passes: the verdict of 1 to 12, and where the value of each slot begins and ends.
-fn by_passes<T: MessageType>(message: &[u8]) -> Body
+pub fn by_passes<T: MessageType>(message: &[u8]) -> Body
     ensures { result ≡ taken (of T.shape) message.now }
 {
     reader::take(message, T::header(), T::rows(), T::slots())
@@ -33,7 +33,7 @@ fn by_passes<T: MessageType>(message: &[u8]) -> Body
 
 // Takes the message at the front of a text at one look: how many bytes it has, and where the value of each slot begins and ends; or nothing
 // is told.
-fn at_a_look<T: MessageType>(
+pub fn at_a_look<T: MessageType>(
     text: &[u8],
     starts: &mut [usize; stretches::SLOTS],
     ends: &mut [usize; stretches::SLOTS],
