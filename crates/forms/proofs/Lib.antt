@@ -1,3 +1,4 @@
+pub mod ByKind
 pub mod Laws
 pub mod Parts
 pub mod Tables

@@ -18,7 +18,7 @@ use Rattle.text.specs.declared.Class.{Class}
 use Rattle.text.proofs.Laws.{parts_from, length-parts, rest_of}
 use Rattle.forms.specs.Forms.{Form, Slot, characters, words, other, word_at, is_word, unless, form_number, value_number}
 use Rattle.forms.specs.Narrative.{services, service_in, period_in}
-use Rattle.forms.specs.Slots.{words_of, reaches, line_in, text_in, words_in, forms_in, form_of, form_in, slot_at}
+use Rattle.forms.specs.Slots.{words_of, reaches, line_in, text_in, words_in, form_of, form_in, slot_at}
 
 -- ---- the search for a word
 
@@ -107,23 +107,6 @@ pub characters-number : (class : Class) (v : List ℕ) (least most a b : ℕ) �
     → unless (is_all class a b v) ≡ form_number (characters class least most) v
 unfolding form_number
 characters-number class v least most a b e f = rw (e, f)
-
-past_two : (k : ℕ) → (k ≡ 0 → ⊥) → (k ≡ 1 → ⊥) → (k ≡ 2 → ⊥) → 3 ≤ k
-past_two k a b c = omega arith
-
-from-three : (k : ℕ) → 3 ≤ k → (k ≡ 3 → ⊥) → (k ≡ 4 → ⊥) → (k ≡ 5 → ⊥) → (k ≡ 6 → ⊥) → 7 ≤ k
-from-three k h d e f g = omega arith
-
-from-seven : (k : ℕ) → 7 ≤ k → (k ≡ 7 → ⊥) → (k ≡ 8 → ⊥) → (k ≡ 9 → ⊥) → 10 ≤ k
-from-seven k h i j l = omega arith
-
-pub past-nine : (k : ℕ) → (k ≡ 0 → ⊥) → (k ≡ 1 → ⊥) → (k ≡ 2 → ⊥) → (k ≡ 3 → ⊥) → (k ≡ 4 → ⊥) → (k ≡ 5 → ⊥) → (k ≡ 6 → ⊥) → (k ≡ 7 → ⊥) → (k ≡ 8 → ⊥) → (k ≡ 9 → ⊥)
-    → 10 ≤ k
-past-nine k a b c d e f g = from-seven k (from-three k (past_two k a b c) d e f g)
-
-pub no-form : (t : List ℕ) (kind least most : ℕ) (v : List ℕ) → 10 ≤ kind → 0 ≡ form_number (form_of t kind least most) v
-unfolding form_number form_of
-no-form t kind least most v h = rw (get_or-eq_default (forms_in t least most) other h)
 
 -- ---- the lines
 

@@ -5,6 +5,7 @@
 use Rattle.std.specs.Prelude.{ℕ, zero, suc, ◌+◌, ◌*◌, ◌/◌, ◌%◌, Bool, cond, List, [], ◌∷◌, leb, length, take, drop, get_or}
 use Rattle.text.specs.Bytes.{parts}
 use Rattle.text.specs.declared.Class.TheVariants.{Hyphened, Printed}
+use Rattle.forms.specs.declared.Kind.{Kind}
 use Rattle.forms.specs.Forms.{Form, Slot, nothing, codes, characters, words, amount, date, moment, narrative, pool_narrative, other}
 
 -- words of four letters that stand one behind the other
@@ -46,7 +47,16 @@ forms_in t least most =
     ∷ characters Printed least most
     ∷ []
 
+-- their kinds in the same order, as the code names them
+abbrev pub kinds : List Kind
+kinds =
+    Kind.Nothing ∷ Kind.Codes ∷ Kind.Words ∷ Kind.Amount ∷ Kind.Date ∷ Kind.Moment
+    ∷ Kind.Narrative ∷ Kind.PoolNarrative ∷ Kind.Hyphened ∷ Kind.Printed ∷ []
+
 -- any other number is a form that takes any text
+unfoldable pub kind_of : ℕ → Kind
+kind_of kind = get_or kinds kind Kind.Other
+
 unfoldable pub form_of : List ℕ → ℕ → ℕ → ℕ → Form
 form_of t kind least most = get_or (forms_in t least most) kind other
 

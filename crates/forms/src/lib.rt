@@ -9,11 +9,47 @@ pub mod pool;
 
 ghost use Rattle.std.specs.Prelude.{◌≡◌, [], ◌+◌, ◌*◌, length, get_or};
 ghost use Rattle.forms.specs.Forms.{characters, word_at, unless, form_number, value_number};
-ghost use Rattle.forms.specs.Slots.{words_of, words_in, form_of, slot_at};
+ghost use Rattle.forms.specs.Slots.{words_of, words_in, kind_of, form_of, slot_at};
 
 use amount::Amount;
 use calendar::{Date, Moment};
 use text::Class;
+
+// The kind of a form, as the byte of a slot's line numbers it from 0; any other number is a form that takes any text.
+#[derive(Clone, Copy, PartialEq, Eq)]
+pub enum Kind {
+    Nothing,
+    Codes,
+    Words,
+    Amount,
+    Date,
+    Moment,
+    Narrative,
+    PoolNarrative,
+    Hyphened,
+    Printed,
+    Other,
+}
+
+impl Kind {
+    pub fn of(byte: u8) -> Kind
+        ensures { result ≡ kind_of byte }
+    {
+        match byte {
+            0 => Kind::Nothing,
+            1 => Kind::Codes,
+            2 => Kind::Words,
+            3 => Kind::Amount,
+            4 => Kind::Date,
+            5 => Kind::Moment,
+            6 => Kind::Narrative,
+            7 => Kind::PoolNarrative,
+            8 => Kind::Hyphened,
+            9 => Kind::Printed,
+            _ => Kind::Other,
+        }
+    }
+}
 
 // The place of a value among words of four letters that stand one behind the other; their number where it is none of them.
 pub fn word_at(words: &[u8], value: &[u8]) -> usize
@@ -75,21 +111,20 @@ fn judge_form(slots: &[u8], line: &[u8], value: &[u8]) -> u64
     requires { length line.now ≡ 20 }
     ensures { result ≡ form_number (form_of slots.now (get_or line.now 0 0) (get_or line.now 1 0) (get_or line.now 2 0)) value.now }
 {
-    let kind = line[0];
     let least = line[1];
     let most = line[2];
-    match kind {
-        0 => unless(value.len() == 0),
-        1 => unless(text::is_code(value, usize::from(least), usize::from(most))),
-        2 => unless(word_in(slots, least, most, value) < usize::from(most)),
-        3 => amount::number(Amount::read(value)),
-        4 => calendar::number(Date::read(value)),
-        5 => calendar::number(Moment::read(value)),
-        6 => unless(narrative::is_narrative(value)),
-        7 => pool::number(value),
-        8 => judge_characters(Class::Hyphened, least, most, value),
-        9 => judge_characters(Class::Printed, least, most, value),
-        _ => 0,
+    match Kind::of(line[0]) {
+        Kind::Nothing => unless(value.len() == 0),
+        Kind::Codes => unless(text::is_code(value, usize::from(least), usize::from(most))),
+        Kind::Words => unless(word_in(slots, least, most, value) < usize::from(most)),
+        Kind::Amount => amount::number(Amount::read(value)),
+        Kind::Date => calendar::number(Date::read(value)),
+        Kind::Moment => calendar::number(Moment::read(value)),
+        Kind::Narrative => unless(narrative::is_narrative(value)),
+        Kind::PoolNarrative => pool::number(value),
+        Kind::Hyphened => judge_characters(Class::Hyphened, least, most, value),
+        Kind::Printed => judge_characters(Class::Printed, least, most, value),
+        Kind::Other => 0,
     }
 }
 
