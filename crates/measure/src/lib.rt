@@ -10,6 +10,7 @@ ghost use Rattle.forms.specs.Slots.{words_in, form_of, slot_at};
 ghost use Rattle.measure.specs.Measure.{FixedMeasured, FormMeasured, Measured};
 
 use calendar::{Date, Moment};
+use forms::Kind;
 use text::Class;
 
 // How many bytes at the front of a text are of a class.
@@ -146,21 +147,20 @@ fn form_width(slots: &[u8], line: &[u8], text: &[u8]) -> Option<usize>
     requires { length line.now ≡ 20 }
     ensures { FormMeasured (form_of slots.now (get_or line.now 0 0) (get_or line.now 1 0) (get_or line.now 2 0)) text.now result }
 {
-    let kind = line[0];
     let least = line[1];
     let most = line[2];
-    match kind {
-        0 => Some(0),
-        1 => characters_width(Class::C, least, most, text),
-        2 => word_width(slots, least, most, text),
-        3 => amount_width(text),
-        4 => date_width(text),
-        5 => moment_width(text),
-        6 => narrative_width(text),
-        7 => pool_width(text),
-        8 => characters_width(Class::Hyphened, least, most, text),
-        9 => characters_width(Class::Printed, least, most, text),
-        _ => None,
+    match Kind::of(line[0]) {
+        Kind::Nothing => Some(0),
+        Kind::Codes => characters_width(Class::C, least, most, text),
+        Kind::Words => word_width(slots, least, most, text),
+        Kind::Amount => amount_width(text),
+        Kind::Date => date_width(text),
+        Kind::Moment => moment_width(text),
+        Kind::Narrative => narrative_width(text),
+        Kind::PoolNarrative => pool_width(text),
+        Kind::Hyphened => characters_width(Class::Hyphened, least, most, text),
+        Kind::Printed => characters_width(Class::Printed, least, most, text),
+        Kind::Other => None,
     }
 }
 
@@ -185,12 +185,11 @@ fn plain_width(slots: &[u8], line: &[u8], text: &[u8]) -> Option<usize>
     requires { length line.now ≡ 20 }
     ensures { FormMeasured (form_of slots.now (get_or line.now 0 0) (get_or line.now 1 0) (get_or line.now 2 0)) text.now result }
 {
-    let kind = line[0];
     let least = line[1];
     let most = line[2];
-    match kind {
-        0 => Some(0),
-        1 => characters_width(Class::C, least, most, text),
+    match Kind::of(line[0]) {
+        Kind::Nothing => Some(0),
+        Kind::Codes => characters_width(Class::C, least, most, text),
         _ => None,
     }
 }

@@ -1,44 +1,44 @@
--- `measure::form_width` meets its contract: each arm is a form by its number. Assumes nothing.
-use Rattle.forms.specs.Slots.{form_of}
+-- `measure::form_width` meets its contract: each arm is a form by its kind. Assumes nothing.
+use Rattle.forms.proofs.ByKind.{form_as, of_kind}
 use Rattle.measure.proofs.Laws.{nothing-told, code-told}
 use Rattle.measure.proofs.form_width.Goals as goal
 
-pub returns-in-0 : goal.returns-in-0
-unfolding form_of
-returns-in-0 c = rw c.in-0.is (nothing-told _)
+pub returns-in-Nothing : goal.returns-in-Nothing
+unfolding form_as
+returns-in-Nothing c = rw (of_kind _ _ _ _ _ c.of.ensures _ c.in-Nothing.is) (nothing-told _)
 
-pub returns-in-1 : goal.returns-in-1
-unfolding form_of
-returns-in-1 c = rw c.in-1.is (code-told _ _ _ _ c.characters_width.ensures)
+pub returns-in-Codes : goal.returns-in-Codes
+unfolding form_as
+returns-in-Codes c = rw (of_kind _ _ _ _ _ c.of.ensures _ c.in-Codes.is) (code-told _ _ _ _ c.characters_width.ensures)
 
-pub returns-in-2 : goal.returns-in-2
-unfolding form_of
-returns-in-2 c = rw c.in-2.is c.word_width.ensures
+pub returns-in-Words : goal.returns-in-Words
+unfolding form_as
+returns-in-Words c = rw (of_kind _ _ _ _ _ c.of.ensures _ c.in-Words.is) c.word_width.ensures
 
-pub returns-in-3 : goal.returns-in-3
-unfolding form_of
-returns-in-3 c = rw c.in-3.is c.amount_width.ensures
+pub returns-in-Amount : goal.returns-in-Amount
+unfolding form_as
+returns-in-Amount c = rw (of_kind _ _ _ _ _ c.of.ensures _ c.in-Amount.is) c.amount_width.ensures
 
-pub returns-in-4 : goal.returns-in-4
-unfolding form_of
-returns-in-4 c = rw c.in-4.is c.date_width.ensures
+pub returns-in-Date : goal.returns-in-Date
+unfolding form_as
+returns-in-Date c = rw (of_kind _ _ _ _ _ c.of.ensures _ c.in-Date.is) c.date_width.ensures
 
-pub returns-in-5 : goal.returns-in-5
-unfolding form_of
-returns-in-5 c = rw c.in-5.is c.moment_width.ensures
+pub returns-in-Moment : goal.returns-in-Moment
+unfolding form_as
+returns-in-Moment c = rw (of_kind _ _ _ _ _ c.of.ensures _ c.in-Moment.is) c.moment_width.ensures
 
-pub returns-in-6 : goal.returns-in-6
-unfolding form_of
-returns-in-6 c = rw c.in-6.is c.narrative_width.ensures
+pub returns-in-Narrative : goal.returns-in-Narrative
+unfolding form_as
+returns-in-Narrative c = rw (of_kind _ _ _ _ _ c.of.ensures _ c.in-Narrative.is) c.narrative_width.ensures
 
-pub returns-in-7 : goal.returns-in-7
-unfolding form_of
-returns-in-7 c = rw c.in-7.is c.pool_width.ensures
+pub returns-in-PoolNarrative : goal.returns-in-PoolNarrative
+unfolding form_as
+returns-in-PoolNarrative c = rw (of_kind _ _ _ _ _ c.of.ensures _ c.in-PoolNarrative.is) c.pool_width.ensures
 
-pub returns-in-8 : goal.returns-in-8
-unfolding form_of
-returns-in-8 c = rw c.in-8.is c.characters_width-in-8.ensures
+pub returns-in-Hyphened : goal.returns-in-Hyphened
+unfolding form_as
+returns-in-Hyphened c = rw (of_kind _ _ _ _ _ c.of.ensures _ c.in-Hyphened.is) c.characters_width-in-Hyphened.ensures
 
-pub returns-in-9 : goal.returns-in-9
-unfolding form_of
-returns-in-9 c = rw c.in-9.is c.characters_width-in-9.ensures
+pub returns-in-Printed : goal.returns-in-Printed
+unfolding form_as
+returns-in-Printed c = rw (of_kind _ _ _ _ _ c.of.ensures _ c.in-Printed.is) c.characters_width-in-Printed.ensures

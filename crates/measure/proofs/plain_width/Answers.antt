@@ -1,12 +1,12 @@
--- `measure::plain_width` meets its contract: each arm is a form by its number. Assumes nothing.
-use Rattle.forms.specs.Slots.{form_of}
+-- `measure::plain_width` meets its contract: each arm is a form by its kind. Assumes nothing.
+use Rattle.forms.proofs.ByKind.{form_as, of_kind}
 use Rattle.measure.proofs.Laws.{nothing-told, code-told}
 use Rattle.measure.proofs.plain_width.Goals as goal
 
-pub returns-in-0 : goal.returns-in-0
-unfolding form_of
-returns-in-0 c = rw c.in-0.is (nothing-told _)
+pub returns-in-Nothing : goal.returns-in-Nothing
+unfolding form_as
+returns-in-Nothing c = rw (of_kind _ _ _ _ _ c.of.ensures _ c.in-Nothing.is) (nothing-told _)
 
-pub returns-in-1 : goal.returns-in-1
-unfolding form_of
-returns-in-1 c = rw c.in-1.is (code-told _ _ _ _ c.characters_width.ensures)
+pub returns-in-Codes : goal.returns-in-Codes
+unfolding form_as
+returns-in-Codes c = rw (of_kind _ _ _ _ _ c.of.ensures _ c.in-Codes.is) (code-told _ _ _ _ c.characters_width.ensures)
