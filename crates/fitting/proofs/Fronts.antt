@@ -1,19 +1,21 @@
 -- A text and its first line, held against a key of 20 to 7E hex: the one begins with the key where the other does; and where the text
 -- holds an LF, its first line is the key where the text begins with the key and a line ending.
 -- Assumes nothing.
-use Prim.Native.Nat.{ℕ, zero, suc, ◌-◌, ◌/◌, ◌<◌}
+use Prim.Native.Nat.{ℕ, zero, suc, ◌-◌, ◌/◌, ◌≤◌, ◌<◌}
 use mathlib.Core.Path.{◌≡◌, refl, sym, ap, ◌∙◌}
-use mathlib.Core.Bool.{Bool, true, false, ◌&&◌, not, cond, true≢false}
+use mathlib.Core.Bool.{Bool, true, false, ◌&&◌, not, cond, and-false, true≢false}
 use mathlib.Core.List.{List, [], ◌∷◌, append-nil}
 use native.Mathlib.Nat.{not-suc-le-zero, le_of_suc-le-suc}
 use native.Mathlib.Omega.{arith}
-use lib.Dec.{eqb, eqb-suc-zero}
+use lib.Dec.{leb, eqb, eqb-suc-zero}
 use lib.ListN.{length, take, drop}
 use lib.Seq.{take_at}
-use borrow.Author.Tests.{eqb-true}
+use borrow.Author.Tests.{eqb-true, le-leb, lt-leb}
+use Rattle.std.specs.Prelude.{Option, Some, None}
+use Rattle.std.specs.Option.{option_map_or}
 use Rattle.text.specs.Bytes.{bytes, begins, same, before, parts}
 use Rattle.text.specs.Classes.{is_between, printed}
-use Rattle.text.proofs.Laws.{and_left, and_right, and_both, same-eq, begins-append, begins-is, rest_of}
+use Rattle.text.proofs.Laws.{and_left, and_right, and_both, same-eq, begins-append, begins-is, begins-length, rest_of}
 use Rattle.text.proofs.Bools.{is_false}
 use Rattle.bars.specs.Bars.{any_front, goes_on, strays}
 use Rattle.lines.specs.Lines.{bare, without_ending, ending_width}
@@ -140,19 +142,19 @@ ends-empty [] h = absurd (not-suc-le-zero h)
 ends-empty (b ∷ s) h = rw (eqb-suc-zero (length s)) (at (eqb b 10) h)
   where
     -- a CR or not, in front of an LF or not
-    two : (c : ℕ) (t : List ℕ) (r l : Bool) → eqb b 13 ≡ r → is_between 1 2 (cond (r && (l && true)) 2 3) ≡ same [] (bare (b ∷ cond l [] (c ∷ before 10 t)))
+    two : (c : ℕ) (t : List ℕ) (r l : Bool) → eqb b 13 ≡ r → option_map_or (is_between 1 2) (cond (r && (l && true)) (Some 2) None) false ≡ same [] (bare (b ∷ cond l [] (c ∷ before 10 t)))
     two c t true true e = rw e
     two c t true false e = refl
     two c t false true e = rw e
     two c t false false e = refl
 
     more : (t : List ℕ) → suc (length (before 10 t)) < suc (length t)
-        → is_between 1 2 (cond (eqb b 13 && begins (10 ∷ []) t) 2 3) ≡ same [] (bare (b ∷ before 10 t))
+        → option_map_or (is_between 1 2) (cond (eqb b 13 && begins (10 ∷ []) t) (Some 2) None) false ≡ same [] (bare (b ∷ before 10 t))
     more [] h = let z : ⊥ = omega arith in absurd z
     more (c ∷ t) h = two c t (eqb b 13) (eqb c 10) refl
 
     at : (t : Bool) → length (cond t [] (b ∷ before 10 s)) < suc (length s)
-        → is_between 1 2 (cond (t && true) 1 (cond (eqb b 13 && begins (10 ∷ []) s) 2 3)) ≡ same [] (bare (cond t [] (b ∷ before 10 s)))
+        → option_map_or (is_between 1 2) (cond (t && true) (Some 1) (cond (eqb b 13 && begins (10 ∷ []) s) (Some 2) None)) false ≡ same [] (bare (cond t [] (b ∷ before 10 s)))
     at true h = refl
     at false h = more s h
 
@@ -176,9 +178,30 @@ key-front key s e = ap (take (length key)) (begins-is key s e) ∙ take_at key _
 
 -- the ending is looked at where the text begins with the key
 module _ (key s : List ℕ) (b : Bool) (is : b ≡ begins key s) where
-  pub edge-ends : b ≡ true → (w : ℕ) → w ≡ ending_width (take (length s - length key) (drop (length key) s)) → is_edge s key ≡ is_between 1 2 w
-  unfolding is_edge ends_line
-  edge-ends e w f = rw (f, rest_of (length key) (length s) s refl, ← is, e)
+  module _ (e : b ≡ true) where
+    pub front_within : length key ≤ length s
+    front_within = begins-length key s (sym is ∙ e)
+
+    module _ (o : Option ℕ) (f : o ≡ ending_width (take (length s - length key) (drop (length key) s))) where
+      edge-ends : is_edge s key ≡ option_map_or (is_between 1 2) o false
+      unfolding is_edge ends_line
+      edge-ends = rw (f, rest_of (length key) (length s) s refl, ← is, e)
+
+      pub edge_open : o ≡ None → false ≡ is_edge s key
+      edge_open g = sym (edge-ends ∙ rw g)
+
+      module _ (w : ℕ) (g : o ≡ Some w) where
+        pub edge_told : 1 ≤ w → w ≤ 2 → true ≡ is_edge s key
+        unfolding is_between
+        edge_told l h = sym (edge-ends ∙ rw (g, le-leb 1 w l, le-leb w 2 h))
+
+        pub edge_zero : w < 1 → false ≡ is_edge s key
+        unfolding is_between
+        edge_zero l = sym (edge-ends ∙ rw (g, lt-leb 1 w l))
+
+        pub edge_wide : 2 < w → false ≡ is_edge s key
+        unfolding is_between
+        edge_wide l = sym (edge-ends ∙ rw (g, lt-leb w 2 l, and-false (leb 1 w)))
 
   pub edge_none : b ≡ false → false ≡ is_edge s key
   unfolding is_edge

@@ -1,6 +1,7 @@
 -- The row of a table that the line at the front of a text fits, seen from its first bytes on. What is said goes one way: where a row is
 -- told, the table takes the line so; where none is, nothing is said.
-use Rattle.std.specs.Prelude.{ℕ, ◌+◌, ◌-◌, ◌≤◌, ◌<◌, ◌≡◌, Bool, true, ◌&&◌, ◌||◌, cond, List, [], ◌∷◌, eqb, length, take, drop, Option, Some, None}
+use Rattle.std.specs.Prelude.{ℕ, ◌+◌, ◌-◌, ◌≤◌, ◌<◌, ◌≡◌, Bool, true, false, ◌&&◌, ◌||◌, cond, List, [], ◌∷◌, eqb, length, take, drop, Option, Some, None}
+use Rattle.std.specs.Option.{option_map_or}
 use Rattle.text.specs.Bytes.{begins, before}
 use Rattle.text.specs.Classes.{is_between, printed}
 use Rattle.lines.specs.Lines.{without_ending, ending_width}
@@ -36,7 +37,7 @@ clean_rows (r ∷ rows) = printed (row_text r) && clean_rows rows
 
 -- a line ending, LF or CR LF, stands at the front of a text
 unfoldable pub ends_line : List ℕ → Bool
-ends_line s = is_between 1 2 (ending_width s)
+ends_line s = option_map_or (is_between 1 2) (ending_width s) false
 
 -- the text of the row that it fits is its first bytes; and where the text has an LF, the line up to its ending is taken so
 pub record Fits (table : List Row) (here : Place) (seen s : List ℕ) (step : Step) (width : ℕ) : Type 0 where

@@ -40,13 +40,12 @@ fn unless(stop: bool, deep: usize, unmarked: bool) -> Glimpse
 }
 
 // A text begins with the first or last line of a block. Its ending is looked at only where the text begins with the block's name.
+#[tactic(auto, using(crate::proofs::Fronts::edge_told, crate::proofs::Fronts::edge_wide, crate::proofs::Fronts::edge_zero, crate::proofs::Fronts::edge_open, crate::proofs::Fronts::edge_none, crate::proofs::Fronts::front_within))]
 fn is_edge(text: &[u8], key: &[u8]) -> bool
     ensures { result ≡ is_edge text.now key.now }
 {
     if text::begins_with(text, key) {
-        let n = key.len();
-        let width = lines::ending(&text[n..]);
-        1 <= width && width <= 2
+        matches!(lines::ending(&text[key.len()..]), Some(1..=2))
     } else {
         false
     }

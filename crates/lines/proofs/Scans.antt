@@ -16,6 +16,7 @@ use Rattle.std.specs.List.{position, prefix_len}
 use Rattle.std.proofs.lemmas.List.Sums.{prefix_len-le-length, prefix_len_passes, prefix_len_stops}
 use Rattle.text.proofs.Scans.{place-is}
 use Rattle.std.specs.Option.{unwrap_or, option_map, option_or}
+use Rattle.std.proofs.lemmas.Option.{none-some}
 use borrow.Author.Tests.{le-leb, lt-leb, eq-eqb, ne_eqb, eqb-true}
 use Rattle.text.specs.Bytes.{bytes, begins, same, before}
 use Rattle.text.specs.Classes.{is_between}
@@ -147,30 +148,33 @@ text-line (suc n) (b ∷ s) h p =
 
 -- ---- an ending
 
-ending-cons : (b : ℕ) (t : List ℕ) → ending_width (b ∷ t) ≡ cond (eqb b 10) 1 (cond (begins (bytes "\r\n") (b ∷ t)) 2 3)
+some-eq : (n k : ℕ) → Some n ≡ Some k → n ≡ k
+some-eq n k e = ap (λ (o : Option ℕ). unwrap_or o 0) e
+
+ending-cons : (b : ℕ) (t : List ℕ) → ending_width (b ∷ t) ≡ cond (eqb b 10) (Some 1) (cond (begins (bytes "\r\n") (b ∷ t)) (Some 2) None)
 unfolding begins bytes
 ending-cons b t = rw (eqb-suc-zero (length t), and-true (eqb b 10))
 
 module _ (t : List ℕ) where
-  pub ending-none : length t ≡ 0 → 0 ≡ ending_width t
+  pub ending-none : length t ≡ 0 → Some 0 ≡ ending_width t
   ending-none h = rw h
 
   module _ (some : length t ≡ 0 → ⊥) where
-    ending-is : ending_width t ≡ cond (eqb (get_or t 0 0) 10) 1 (cond (begins (bytes "\r\n") t) 2 3)
+    ending-is : ending_width t ≡ cond (eqb (get_or t 0 0) 10) (Some 1) (cond (begins (bytes "\r\n") t) (Some 2) None)
     ending-is = at t some
       where
-        at : (t : List ℕ) → (length t ≡ 0 → ⊥) → ending_width t ≡ cond (eqb (get_or t 0 0) 10) 1 (cond (begins (bytes "\r\n") t) 2 3)
+        at : (t : List ℕ) → (length t ≡ 0 → ⊥) → ending_width t ≡ cond (eqb (get_or t 0 0) 10) (Some 1) (cond (begins (bytes "\r\n") t) (Some 2) None)
         at [] h = absurd (h refl)
         at (b ∷ t) h = ending-cons b t
 
-    pub ending-lf : get_or t 0 0 ≡ 10 → 1 ≡ ending_width t
+    pub ending-lf : get_or t 0 0 ≡ 10 → Some 1 ≡ ending_width t
     ending-lf e = sym (ending-is ∙ rw (eq-eqb _ _ e))
 
     module _ (lf : get_or t 0 0 ≡ 10 → ⊥) where
-      pub ending-crlf : begins (bytes "\r\n") t ≡ true → 2 ≡ ending_width t
+      pub ending-crlf : begins (bytes "\r\n") t ≡ true → Some 2 ≡ ending_width t
       ending-crlf e = sym (ending-is ∙ rw (ne_eqb _ _ lf, e))
 
-      pub ending-other : begins (bytes "\r\n") t ≡ false → 3 ≡ ending_width t
+      pub ending-other : begins (bytes "\r\n") t ≡ false → None ≡ ending_width t
       ending-other e = sym (ending-is ∙ rw (ne_eqb _ _ lf, e))
 
 -- what stands behind a text, where it is an ending of k bytes or the end of the message
@@ -189,28 +193,28 @@ ends-crlf : (t : List ℕ) → Ends (13 ∷ 10 ∷ t) 2
 unfolding byte_pass may_stand is_between before bare begins bytes
 ends-crlf t = record { rest = λ line. refl; bare_of = refl; behind = refl; within = omega arith; some = omega arith }
 
-ends-here : (t : List ℕ) → (ending_width t ≡ 3 → ⊥) → Ends t (ending_width t)
+ends-here : (t : List ℕ) (k : ℕ) → ending_width t ≡ Some k → Ends t k
 unfolding byte_pass before bare begins bytes
-ends-here [] h = record { rest = λ line. refl; bare_of = refl; behind = refl; within = omega arith; some = omega arith }
-ends-here (b ∷ t) h = subst (Ends (b ∷ t)) (sym (ending-cons b t)) (at (eqb b 10) refl (eqb b 13 && begins (10 ∷ []) t) refl (λ x. h (ending-cons b t ∙ x)))
+ends-here [] k h = subst (Ends []) (some-eq 0 k h) (record { rest = λ line. refl; bare_of = refl; behind = refl; within = omega arith; some = omega arith })
+ends-here (b ∷ t) k h = at (eqb b 10) refl (eqb b 13 && begins (10 ∷ []) t) refl (sym (ending-cons b t) ∙ h)
   where
-    at : (l : Bool) → eqb b 10 ≡ l → (c : Bool) → (eqb b 13 && begins (10 ∷ []) t) ≡ c → (◌≡◌ {A = ℕ} (cond l 1 (cond c 2 3)) 3 → ⊥) → Ends (b ∷ t) (cond l 1 (cond c 2 3))
-    at true e c f h = subst (λ x. Ends (x ∷ t) 1) (sym (eqb-true b 10 e)) (ends-lf t)
+    at : (l : Bool) → eqb b 10 ≡ l → (c : Bool) → (eqb b 13 && begins (10 ∷ []) t) ≡ c → cond l (Some 1) (cond c (Some 2) None) ≡ Some k → Ends (b ∷ t) k
+    at true e c f h = subst (Ends (b ∷ t)) (some-eq 1 k h) (subst (λ x. Ends (x ∷ t) 1) (sym (eqb-true b 10 e)) (ends-lf t))
     at false e true f h =
         let cr : b ≡ 13 = eqb-true b 13 (and_left (eqb b 13) _ f) in
         let lf : t ≡ 10 ∷ drop 1 t = begins-is (10 ∷ []) t (and_right (eqb b 13) _ f) in
-        subst (λ x. Ends (x ∷ t) 2) (sym cr) (subst (λ x. Ends (13 ∷ x) 2) (sym lf) (ends-crlf (drop 1 t)))
-    at false e false f h = absurd (h refl)
+        subst (Ends (b ∷ t)) (some-eq 2 k h) (subst (λ x. Ends (x ∷ t) 2) (sym cr) (subst (λ x. Ends (13 ∷ x) 2) (sym lf) (ends-crlf (drop 1 t))))
+    at false e false f h = absurd (none-some k h)
 
 -- and where it is neither
-no-ending : (t : List ℕ) (line : ℕ) → ending_width t ≡ 3 → (0 < length t → is_between 32 126 (get_or t 0 0) ≡ false) → byte_pass line t ≡ refused 2 line
+no-ending : (t : List ℕ) (line : ℕ) → ending_width t ≡ None → (0 < length t → is_between 32 126 (get_or t 0 0) ≡ false) → byte_pass line t ≡ refused 2 line
 unfolding byte_pass may_stand begins bytes
-no-ending [] line h p = let z : ⊥ = omega arith in absurd z
+no-ending [] line h p = absurd (none-some 0 (sym h))
 no-ending (b ∷ t) line h p = at (eqb b 10) refl (eqb b 13 && begins (10 ∷ []) t) refl (sym (ending-cons b t) ∙ h)
   where
-    at : (l : Bool) → eqb b 10 ≡ l → (c : Bool) → (eqb b 13 && begins (10 ∷ []) t) ≡ c → ◌≡◌ {A = ℕ} (cond l 1 (cond c 2 3)) 3 → byte_pass line (b ∷ t) ≡ refused 2 line
-    at true e c f h = let z : ⊥ = omega arith in absurd z
-    at false e true f h = let z : ⊥ = omega arith in absurd z
+    at : (l : Bool) → eqb b 10 ≡ l → (c : Bool) → (eqb b 13 && begins (10 ∷ []) t) ≡ c → cond {A = Option ℕ} l (Some 1) (cond c (Some 2) None) ≡ None → byte_pass line (b ∷ t) ≡ refused 2 line
+    at true e c f h = absurd (none-some 1 (sym h))
+    at false e true f h = absurd (none-some 2 (sym h))
     at false e false f h = rw (p (omega arith), e, f)
 
 -- ---- the end
@@ -276,10 +280,10 @@ abbrev pub left : List ℕ → ℕ → Option ℕ → ℕ → Verdict
 left m n end at = then (byte_pass (n + 1) (drop at m)) (closing (ended m) end n (lines_of (drop at m)))
 
 -- a turn from there on, with k bytes of text and an ending of c bytes: it stops, or it grows and goes on behind the ending
-pub record Turn (m : List ℕ) (n : ℕ) (end : Option ℕ) (at k c : ℕ) (text : List ℕ) : Type 0 where
-  pub stops : c ≡ 3 → refused 2 (n + 1) ≡ left m n end at
-  pub grows : (c ≡ 3 → ⊥) → (0 < k + c) × (at + (k + c) ≤ length m)
-  pub goes_on : (c ≡ 3 → ⊥) → (known : Option ℕ) → known ≡ first_end end (n + 1) text → left m (n + 1) known (at + (k + c)) ≡ left m n end at
+pub record Turn (m : List ℕ) (n : ℕ) (end : Option ℕ) (at k : ℕ) (o : Option ℕ) (text : List ℕ) : Type 0 where
+  pub stops : o ≡ None → refused 2 (n + 1) ≡ left m n end at
+  pub grows : (c : ℕ) → o ≡ Some c → (0 < k + c) × (at + (k + c) ≤ length m)
+  pub goes_on : (c : ℕ) → o ≡ Some c → (known : Option ℕ) → known ≡ first_end end (n + 1) text → left m (n + 1) known (at + (k + c)) ≡ left m n end at
 
 pub left-all : (m : List ℕ) → 0 < length m → left m 0 None 0 ≡ then (byte_pass 1 m) (end_pass (ended m) 1 (lines_of m))
 left-all m h = rw (lines_step m h, closing-is (ended m) 0)
@@ -289,7 +293,7 @@ module _ (m : List ℕ) (n : ℕ) (end : Option ℕ) (at : ℕ) where
   unfolding closing byte_pass then pass refused
   left-none h = rw (lines-behind m at h, drop_of_length-le m h)
 
-  module _ (h : at < length m) (s : List ℕ) (es : s ≡ drop at m) (k : ℕ) (front : Front s k) (t : List ℕ) (et : t ≡ drop k s) (c : ℕ) (is : c ≡ ending_width t) where
+  module _ (h : at < length m) (s : List ℕ) (es : s ≡ drop at m) (k : ℕ) (front : Front s k) (t : List ℕ) (et : t ≡ drop k s) (o : Option ℕ) (is : o ≡ ending_width t) where
     -- what stands behind the text is no byte of a text
     other : 0 < length t → is_between 32 126 (get_or t 0 0) ≡ false
     other l =
@@ -297,16 +301,15 @@ module _ (m : List ℕ) (n : ℕ) (end : Option ℕ) (at : ℕ) where
         let lt = ap length et in
         rw (et, get_or-drop k s 0 0, add-zero k) (front.2 (omega arith))
 
-    left-stop : c ≡ 3 → refused 2 (n + 1) ≡ left m n end at
+    left-stop : o ≡ None → refused 2 (n + 1) ≡ left m n end at
     unfolding then refused
     left-stop e =
-        let three : ending_width t ≡ 3 = sym is ∙ e in
-        let judged : byte_pass (n + 1) s ≡ refused 2 (n + 1) = text-bytes k (n + 1) s front.1 ∙ ap (byte_pass (n + 1)) (sym et) ∙ no-ending t (n + 1) three other in
+        let judged : byte_pass (n + 1) s ≡ refused 2 (n + 1) = text-bytes k (n + 1) s front.1 ∙ ap (byte_pass (n + 1)) (sym et) ∙ no-ending t (n + 1) (sym is ∙ e) other in
         rw (← es, judged)
 
-    module _ (e : c ≡ 3 → ⊥) where
+    module _ (c : ℕ) (e : o ≡ Some c) where
       ends : Ends t c
-      ends = rw is (ends-here t (λ x. e (is ∙ x)))
+      ends = ends-here t c (sym is ∙ e)
 
       left-grows : (0 < k + c) × (at + (k + c) ≤ length m)
       left-grows =
@@ -337,8 +340,8 @@ module _ (m : List ℕ) (n : ℕ) (end : Option ℕ) (at : ℕ) where
           let judged : byte_pass (n + 1) s ≡ byte_pass (suc (n + 1)) (drop c t) = text-bytes k (n + 1) s front.1 ∙ ap (byte_pass (n + 1)) (sym et) ∙ ends.rest (n + 1) in
           rw (behind-here, ← es, judged, lines-here, add-one (n + 1), add-one n)
 
-    pub turn : Turn m n end at k c (take k s)
-    turn = record { stops = left-stop; grows = left-grows; goes_on = λ e known is. rw is (left-more e) }
+    pub turn : Turn m n end at k o (take k s)
+    turn = record { stops = left-stop; grows = left-grows; goes_on = λ c e known is. rw is (left-more c e) }
 
 -- ---- the size
 

@@ -1,6 +1,6 @@
 -- Document 01, "Lines and blocks", its first part: a line ends at LF; a CR just before that LF belongs to the ending. The last
 -- line of a message is `-`, and it too has its ending. And the numbers 1, 2 and 3.
-use Rattle.std.specs.Prelude.{ℕ, zero, suc, ◌+◌, min, Bool, false, ◌&&◌, ◌||◌, cond, List, [], ◌∷◌, ◌++◌, map, leb, eqb, length, drop}
+use Rattle.std.specs.Prelude.{ℕ, zero, suc, ◌+◌, min, Bool, false, ◌&&◌, ◌||◌, cond, List, [], ◌∷◌, ◌++◌, map, leb, eqb, length, drop, Option, Some, None}
 use Rattle.text.specs.Bytes.{bytes, begins, same, before}
 use Rattle.text.specs.Classes.{is_between}
 use Rattle.lines.specs.Verdicts.{refused, pass, then}
@@ -38,9 +38,9 @@ ended [] = false
 ended (b ∷ []) = eqb b 10
 ended (b ∷ c ∷ s) = ended (c ∷ s)
 
--- how many bytes of line ending a part begins with: 0 where the message ends there, 3 where another byte stands
-abbrev pub ending_width : List ℕ → ℕ
-ending_width s = cond (eqb (length s) 0) 0 (cond (begins (bytes "\n") s) 1 (cond (begins (bytes "\r\n") s) 2 3))
+-- how many bytes of line ending a part begins with: 0 where the message ends there, none where another byte stands
+abbrev pub ending_width : List ℕ → Option ℕ
+ending_width s = cond (eqb (length s) 0) (Some 0) (cond (begins (bytes "\n") s) (Some 1) (cond (begins (bytes "\r\n") s) (Some 2) None))
 
 -- ---- lines made into a message
 

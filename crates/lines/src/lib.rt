@@ -24,9 +24,6 @@ pub struct Line {
     pub next: usize,
 }
 
-// No line ending stands here.
-pub const NO_ENDING: usize = 3;
-
 impl Verdict {
     pub const PASS: Verdict = Verdict { number: 0, line: 0 };
 }
@@ -81,20 +78,20 @@ fn text_length(part: &[u8]) -> usize
         .unwrap_or(part.len())
 }
 
-// How many bytes of line ending a part begins with: 0 where the message ends there, `NO_ENDING` where another byte stands.
-pub fn ending(part: &[u8]) -> usize
+// How many bytes of line ending a part begins with: 0 where the message ends there, none where another byte stands.
+pub fn ending(part: &[u8]) -> Option<usize>
     ensures { result ≡ ending_width part.now }
 {
     if part.len() == 0 {
-        return 0;
+        return Some(0);
     }
     if part[0] == b'\n' {
-        return 1;
+        return Some(1);
     }
     if text::begins_with(part, b"\r\n") {
-        return 2;
+        return Some(2);
     }
-    NO_ENDING
+    None
 }
 
 // The first line that is `-`: the one that is known, or else this line.
@@ -141,10 +138,9 @@ fn check_lines(message: &[u8]) -> Verdict
         line += 1;
         let rest = &message[at..];
         let n = text_length(rest);
-        let width = ending(&rest[n..]);
-        if width == NO_ENDING {
+        let Some(width) = ending(&rest[n..]) else {
             return Verdict { number: 2, line };
-        }
+        };
         end = first_end(end, line, &rest[..n]);
         at += n + width;
     }

@@ -20,16 +20,16 @@ slice_bounds-ending-start c = let h = c.text_length-n.ensures.0 in omega arith
 pub slice_bounds-ending-end : goal.slice_bounds-ending-end
 slice_bounds-ending-end c = let h = c.text_length-n.ensures.0 in omega arith
 
-pub returns-then-width-eq-NO_ENDING : goal.returns-then-width-eq-NO_ENDING
+pub returns-in_default : goal.returns-in_default
 unfolding refused
-returns-then-width-eq-NO_ENDING c =
+returns-in_default c =
     let m = c.args.message.now in
     let l = c.loop-at in
     let n = c.text_length-n.result in
-    let here : Turn m l.line l.end l.at n c.ending-width.result (take n (take (length m - l.at) (drop l.at m))) =
-    turn m _ _ _ c.loop-at-test.true _ (rest_of _ _ m refl) n c.text_length-n.ensures _ (rest_of n _ _ refl) _ c.ending-width.ensures
+    let here : Turn m l.line l.end l.at n c.ending.result (take n (take (length m - l.at) (drop l.at m))) =
+    turn m _ _ _ c.loop-at-test.true _ (rest_of _ _ m refl) n c.text_length-n.ensures _ (rest_of n _ _ refl) _ c.ending.ensures
     in
-    here.stops c.if-width-eq-NO_ENDING.true ∙ l.invariant.2 ∙ left-all _ c.requires
+    here.stops c.in_default.is ∙ l.invariant.2 ∙ left-all _ c.requires
 
 pub slice_bounds-first_end-end : goal.slice_bounds-first_end-end
 slice_bounds-first_end-end c = let h = c.text_length-n.ensures.0 in sym (length-take-le _ _ h)
@@ -39,10 +39,10 @@ overflow_add-at c =
     let m = c.args.message.now in
     let l = c.loop-at in
     let n = c.text_length-n.result in
-    let here : Turn m l.line l.end l.at n c.ending-width.result (take n (take (length m - l.at) (drop l.at m))) =
-    turn m _ _ _ c.loop-at-test.true _ (rest_of _ _ m refl) n c.text_length-n.ensures _ (rest_of n _ _ refl) _ c.ending-width.ensures
+    let here : Turn m l.line l.end l.at n c.ending.result (take n (take (length m - l.at) (drop l.at m))) =
+    turn m _ _ _ c.loop-at-test.true _ (rest_of _ _ m refl) n c.text_length-n.ensures _ (rest_of n _ _ refl) _ c.ending.ensures
     in
-    let g = here.grows c.if-width-eq-NO_ENDING.false in
+    let g = here.grows _ c.in-Some.is in
     omega arith
 
 pub overflow_add-at-in-loop-at : goal.overflow_add-at-in-loop-at
@@ -50,10 +50,10 @@ overflow_add-at-in-loop-at c =
     let m = c.args.message.now in
     let l = c.loop-at in
     let n = c.text_length-n.result in
-    let here : Turn m l.line l.end l.at n c.ending-width.result (take n (take (length m - l.at) (drop l.at m))) =
-    turn m _ _ _ c.loop-at-test.true _ (rest_of _ _ m refl) n c.text_length-n.ensures _ (rest_of n _ _ refl) _ c.ending-width.ensures
+    let here : Turn m l.line l.end l.at n c.ending.result (take n (take (length m - l.at) (drop l.at m))) =
+    turn m _ _ _ c.loop-at-test.true _ (rest_of _ _ m refl) n c.text_length-n.ensures _ (rest_of n _ _ refl) _ c.ending.ensures
     in
-    let g = here.grows c.if-width-eq-NO_ENDING.false in
+    let g = here.grows _ c.in-Some.is in
     omega arith
 
 pub loop-at-smaller : goal.loop-at-smaller
@@ -61,10 +61,10 @@ loop-at-smaller c =
     let m = c.args.message.now in
     let l = c.loop-at in
     let n = c.text_length-n.result in
-    let here : Turn m l.line l.end l.at n c.ending-width.result (take n (take (length m - l.at) (drop l.at m))) =
-    turn m _ _ _ c.loop-at-test.true _ (rest_of _ _ m refl) n c.text_length-n.ensures _ (rest_of n _ _ refl) _ c.ending-width.ensures
+    let here : Turn m l.line l.end l.at n c.ending.result (take n (take (length m - l.at) (drop l.at m))) =
+    turn m _ _ _ c.loop-at-test.true _ (rest_of _ _ m refl) n c.text_length-n.ensures _ (rest_of n _ _ refl) _ c.ending.ensures
     in
-    let g = here.grows c.if-width-eq-NO_ENDING.false in
+    let g = here.grows _ c.in-Some.is in
     omega arith
 
 pub loop-at-preserved : goal.loop-at-preserved
@@ -72,12 +72,12 @@ loop-at-preserved c =
     let m = c.args.message.now in
     let l = c.loop-at in
     let n = c.text_length-n.result in
-    let here : Turn m l.line l.end l.at n c.ending-width.result (take n (take (length m - l.at) (drop l.at m))) =
-    turn m _ _ _ c.loop-at-test.true _ (rest_of _ _ m refl) n c.text_length-n.ensures _ (rest_of n _ _ refl) _ c.ending-width.ensures
+    let here : Turn m l.line l.end l.at n c.ending.result (take n (take (length m - l.at) (drop l.at m))) =
+    turn m _ _ _ c.loop-at-test.true _ (rest_of _ _ m refl) n c.text_length-n.ensures _ (rest_of n _ _ refl) _ c.ending.ensures
     in
-    let more = c.if-width-eq-NO_ENDING.false in
-    let g = here.grows more in
-    (g.1, omega arith, here.goes_on more _ c.first_end-end.ensures ∙ l.invariant.2)
+    let more = c.in-Some.is in
+    let g = here.grows _ more in
+    (g.1, omega arith, here.goes_on _ more _ c.first_end-end.ensures ∙ l.invariant.2)
 
 pub check_end-requires : goal.check_end-requires
 check_end-requires c = c.requires
