@@ -3,19 +3,23 @@
 -- Assumes nothing.
 use Prim.Native.Nat.{ℕ, ◌+◌, ◌-◌, ◌≤◌, ◌<◌, min}
 use mathlib.Core.Path.{◌≡◌, refl, sym, ap, ◌∙◌}
-use mathlib.Core.Bool.{Bool, true, false, cond}
+use mathlib.Core.Bool.{Bool, true, false, cond, true≢false}
 use mathlib.Core.List.{List, [], ◌∷◌, ◌++◌, append_assoc}
 use mathlib.Core.Logic.{◌⊎◌, inl, inr}
 use native.Mathlib.Omega.{arith}
-use lib.Dec.{leb, eqb-suc-zero}
+use lib.Dec.{eqb-suc-zero}
 use lib.ListN.{length, take, drop, length-append, length-drop, take-append-drop}
 use lib.Seq.{length-take-le, take-append_seam, drop_at, drop-drop}
 use borrow.Author.Tests.{leb-true, le-leb}
+use Rattle.std.specs.Prelude.{Option, Some, None}
+use Rattle.std.specs.Option.{option_map_or}
+use Rattle.std.proofs.lemmas.Option.{none-some}
 use Rattle.text.specs.Bytes.{bytes, begins, before}
 use Rattle.text.specs.Classes.{is_between, printed}
-use Rattle.text.proofs.Laws.{and_left, and_right, and_both, begins-is}
+use Rattle.text.proofs.Laws.{and_left, and_right, and_both, begins-is, rest_of}
 use Rattle.lines.specs.Lines.{bare, without_ending, line_at, ending_width}
 use Rattle.lines.proofs.Laws.{print-lf, bare-print}
+use Rattle.lines.proofs.Scans.{some-eq}
 use Rattle.fitting.specs.Fitting.{ends_line}
 use Rattle.glance.specs.Steps.{Ended}
 
@@ -30,41 +34,42 @@ pub record Begun (t : List ℕ) : Type 0 where
   pub rest : List ℕ
   pub is : IsEnding over
   pub split : t ≡ over ++ rest
-  pub wide : ending_width t ≡ length over
+  pub wide : ending_width t ≡ Some (length over)
 
-ending-in : (t : List ℕ) → (ending_width t ≡ 0 → ⊥) → (ending_width t ≡ 3 → ⊥) → Begun t
+ending-in : (t : List ℕ) (w : ℕ) → ending_width t ≡ Some w → 0 < w → Begun t
 unfolding bytes
-ending-in [] h k = absurd (h refl)
-ending-in (b ∷ t) h k = on (begins (bytes "\n") (b ∷ t)) refl (begins (bytes "\r\n") (b ∷ t)) refl
+ending-in [] w h k = let z = some-eq 0 w h in let n : ⊥ = omega arith in absurd n
+ending-in (b ∷ t) w h k = on (begins (bytes "\n") (b ∷ t)) refl (begins (bytes "\r\n") (b ∷ t)) refl
   where
-    is : ending_width (b ∷ t) ≡ cond (begins (bytes "\n") (b ∷ t)) 1 (cond (begins (bytes "\r\n") (b ∷ t)) 2 3)
+    is : ending_width (b ∷ t) ≡ cond (begins (bytes "\n") (b ∷ t)) (Some 1) (cond (begins (bytes "\r\n") (b ∷ t)) (Some 2) None)
     is = rw (eqb-suc-zero (length t))
 
     on : (x : Bool) → begins (bytes "\n") (b ∷ t) ≡ x → (z : Bool) → begins (bytes "\r\n") (b ∷ t) ≡ z → Begun (b ∷ t)
     on true e z f = record { over = 10 ∷ []; rest = drop 1 (b ∷ t); is = inl refl; split = begins-is (bytes "\n") (b ∷ t) e; wide = is ∙ rw e }
     on false e true f = record { over = 13 ∷ 10 ∷ []; rest = drop 2 (b ∷ t); is = inr refl; split = begins-is (bytes "\r\n") (b ∷ t) f; wide = is ∙ rw (e, f) }
-    on false e false f = absurd (k (is ∙ rw (e, f)))
+    on false e false f = absurd (none-some w (sym (is ∙ rw (e, f)) ∙ h))
 
 ending-wide : (over : List ℕ) → IsEnding over → (1 ≤ length over) × (length over ≤ 2)
 ending-wide over (inl e) = rw e (omega arith, omega arith)
 ending-wide over (inr e) = rw e (omega arith, omega arith)
 
 -- what the code tells of it
-pub ended_is : (s : List ℕ) (end over : ℕ) → end ≤ length s → over ≡ ending_width (drop end s) → (over ≡ 0 → ⊥) → (over ≡ 3 → ⊥) → Ended s end (end + over)
+pub ended_is : (s : List ℕ) (end : ℕ) → end ≤ length s → (o : Option ℕ) → o ≡ ending_width (take (length s - end) (drop end s))
+    → (over : ℕ) → o ≡ Some over → 0 < over → Ended s end (end + over)
 unfolding ends_line is_between
-ended_is s end over h e some known =
-    let b = ending-in (drop end s) (λ z. some (e ∙ z)) (λ z. known (e ∙ z)) in
+ended_is s end h x f over g some =
+    let e : ending_width (drop end s) ≡ Some over = ap ending_width (sym (rest_of end (length s) s refl)) ∙ sym f ∙ g in
+    let b = ending-in (drop end s) over e some in
     let w = ending-wide b.over b.is in
-    let o : over ≡ length b.over = e ∙ b.wide in
+    let o : over ≡ length b.over = some-eq over _ (sym e ∙ b.wide) in
     let l : length (drop end s) ≡ length b.over + length b.rest = ap length b.split ∙ length-append b.over b.rest in
     let d = length-drop end s in
-    let low : 1 ≤ ending_width (drop end s) = rw (← e, o) w.0 in
-    let high : ending_width (drop end s) ≤ 2 = rw (← e, o) w.1 in
+    let n : end + over - end ≡ over = omega arith in
     record {
       grows = omega (arith, o, w.0);
       within = omega (arith, o, l, d, h);
-      ends = and_both (le-leb 1 _ low) (le-leb _ 2 high);
-      is = ap (λ (x : ℕ). end + x) e;
+      ends = rw e (and_both (le-leb 1 over (omega (arith, o, w.0))) (le-leb over 2 (omega (arith, o, w.1))));
+      is = rw n e;
     }
 
 -- the same, counted from where the line begins
@@ -74,17 +79,18 @@ ended-from s at end next e =
     let l = length-drop at s in
     let g = e.grows in
     let w = e.within in
-    let i = e.is in (
-      record { grows = omega arith; within = omega arith; ends = rw d e.ends; is = rw d (omega arith) },
+    let n : next - at - end ≡ next - (at + end) = omega arith in (
+      record { grows = omega arith; within = omega arith; ends = rw d e.ends; is = rw (d, n) e.is },
       omega arith,
     )
 
 ending_of : (t : List ℕ) → ends_line t ≡ true → Begun t
 unfolding ends_line is_between
-ending_of t h =
-    let low : 1 ≤ ending_width t = leb-true 1 _ (and_left _ _ h) in
-    let high : ending_width t ≤ 2 = leb-true _ 2 (and_right (leb 1 (ending_width t)) _ h) in
-    ending-in t (λ z. omega (arith, low, z)) (λ z. omega (arith, high, z))
+ending_of t h = on (ending_width t) refl h
+  where
+    on : (o : Option ℕ) → ending_width t ≡ o → option_map_or (is_between 1 2) o false ≡ true → Begun t
+    on (Some w) e h = ending-in t w e (leb-true 1 w (and_left _ _ h))
+    on None e h = absurd (true≢false (sym h))
 
 -- the text of a line, its ending, and what stands behind
 pub record Shape (s : List ℕ) (end next : ℕ) : Type 0 where
@@ -106,7 +112,7 @@ shape s end next e =
       is = o.is;
       split = sym (take-append-drop end s) ∙ ap (λ (x : List ℕ). take end s ++ x) o.split;
       long = length-take-le end s (omega arith);
-      wide = e.is ∙ ap (λ (x : ℕ). end + x) o.wide;
+      wide = let w = some-eq (next - end) (length o.over) (sym e.is ∙ o.wide) in omega arith;
     }
 
 -- other bytes behind it

@@ -1,5 +1,5 @@
 -- What the steps of a glance tell each other: a step of the code. `s` is the text from where a step looks at it.
-use Rattle.std.specs.Prelude.{ℕ, ◌+◌, ◌-◌, ◌≤◌, ◌<◌, ◌≡◌, true, List, [], ◌∷◌, ◌++◌, length, take, drop, Option, Some, None}
+use Rattle.std.specs.Prelude.{ℕ, ◌-◌, ◌≤◌, ◌<◌, ◌≡◌, true, List, [], ◌∷◌, ◌++◌, length, take, drop, Option, Some, None}
 use Rattle.text.specs.Bytes.{bytes}
 use Rattle.text.specs.Classes.{printed}
 use Rattle.stretches.specs.Stretches.{slot_count}
@@ -23,7 +23,7 @@ pub record Ended (s : List ℕ) (end next : ℕ) : Type 0 where
   pub grows : end < next
   pub within : next ≤ length s
   pub ends : ends_line (drop end s) ≡ true
-  pub is : next ≡ end + ending_width (drop end s)
+  pub is : ending_width (drop end s) ≡ Some (next - end)
 
 unfoldable pub Ends : List ℕ → ℕ → Option ℕ → Type 0
 Ends s end (Some next) = Ended s end next

@@ -48,20 +48,17 @@ fn nothing() -> Taken
 }
 
 // Where the next line begins, behind a line whose text ends at a place; not told where no line ending stands there.
+#[tactic(auto, unfolding(crate::specs::Steps::Ends))]
 fn behind(text: &[u8], end: usize) -> Option<usize>
     ensures { Ends text.now end result }
 {
     if text.len() < end {
         return None;
     }
-    let over = lines::ending(&text[end..]);
-    if over == 0 {
-        return None;
+    match lines::ending(&text[end..])? {
+        0 => None,
+        over => Some(end + over),
     }
-    if over == lines::NO_ENDING {
-        return None;
-    }
-    Some(end + over)
 }
 
 // A line whose text ends at a place, and whose value begins at another.

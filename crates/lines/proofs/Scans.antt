@@ -148,7 +148,7 @@ text-line (suc n) (b ∷ s) h p =
 
 -- ---- an ending
 
-some-eq : (n k : ℕ) → Some n ≡ Some k → n ≡ k
+pub some-eq : (n k : ℕ) → Some n ≡ Some k → n ≡ k
 some-eq n k e = ap (λ (o : Option ℕ). unwrap_or o 0) e
 
 ending-cons : (b : ℕ) (t : List ℕ) → ending_width (b ∷ t) ≡ cond (eqb b 10) (Some 1) (cond (begins (bytes "\r\n") (b ∷ t)) (Some 2) None)

@@ -2,7 +2,6 @@
 use mathlib.Core.Path.{◌≡◌}
 use lib.ListN.{length}
 use Rattle.stretches.specs.Stretches.{slot_count}
-use Rattle.glance.specs.Glance.{Says}
 use Rattle.glance.specs.Steps.{HeadSays}
 use Rattle.glance.proofs.Turns.{says}
 use borrow.Author.Rules.{rules}

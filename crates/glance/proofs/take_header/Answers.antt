@@ -7,7 +7,7 @@ use Rattle.text.proofs.Laws.{rest_of}
 use native.Mathlib.Omega.{arith}
 use Rattle.forms.specs.Slots.{slot_at}
 use Rattle.measure.specs.Measure.{Measured}
-use Rattle.glance.specs.Steps.{Ended, Ends, HeadSays}
+use Rattle.glance.specs.Steps.{Ended, Ends}
 use Rattle.glance.proofs.Turns.{head-begin, head-again, head-says}
 use Rattle.glance.proofs.take_header.Goals as goal
 
