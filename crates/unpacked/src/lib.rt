@@ -95,11 +95,7 @@ fn trade_in(packed: &[u8]) -> Trade
 pub fn unpack(packed: &[u8; 375]) -> Option<Trade>
     ensures { result ≡ unpacked_of packed.now }
 {
-    if codes::are_named(packed) {
-        Some(trade_in(packed))
-    } else {
-        None
-    }
+    codes::are_named(packed).then(|| trade_in(packed))
 }
 
 // Writes the message of the record that 375 bytes are, as `writing::write` does. Of bytes that are no record it is the blank

@@ -5,4 +5,4 @@ use Rattle.unpacked.proofs.write.Goals as goal
 
 pub returns : goal.returns
 unfolding record_in
-returns c = search (rules, c.unpack.ensures, c.unwrap_or_else-trade.ensures, c.write.ensures)
+returns c = search (rules)
