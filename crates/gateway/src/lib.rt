@@ -18,7 +18,7 @@ ghost use Rattle.writing.specs.Writing.{writing_of};
 ghost use Rattle.plain.specs.Asking.{asking_of};
 ghost use Rattle.values.specs.Mt515.{mt515};
 ghost use Rattle.packed.specs.Packed.{packed_of};
-ghost use Rattle.unpacked.specs.Unpacked.{unpacked_of};
+ghost use Rattle.unpacked.specs.Unpacked.{record_in};
 ghost use Rattle.gateway.specs.Numbers.{turn_number};
 
 use mt515::Mt515;
@@ -89,7 +89,7 @@ pub extern "C" fn mt515_plain(
 // Writes the message of a record into a lent buffer.
 #[unsafe(no_mangle)]
 pub extern "C" fn mt515_write(bytes: &[u8; 375], out: &mut [u8], written: &mut usize) -> u8
-    ensures { (result ≡ (writing_of mt515 (unpacked_of bytes.now).trade (length out.old)).number) × (written.new ≡ (writing_of mt515 (unpacked_of bytes.now).trade (length out.old)).length) × (out.new ≡ written_over mt515 (unpacked_of bytes.now).trade out.old) }
+    ensures { (result ≡ (writing_of mt515 (record_in bytes.now) (length out.old)).number) × (written.new ≡ (writing_of mt515 (record_in bytes.now) (length out.old)).length) × (out.new ≡ written_over mt515 (record_in bytes.now) out.old) }
 {
     let writing = unpacked::write(bytes, out);
     *written = writing.length;

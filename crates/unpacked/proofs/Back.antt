@@ -2,7 +2,7 @@
 -- Assumes nothing.
 use Prim.Native.Nat.{ℕ, zero, suc, ◌+◌, ◌*◌, ◌/◌, ◌%◌, ◌^◌, ◌≤◌, ◌<◌}
 use mathlib.Core.Path.{◌≡◌, refl, sym, ap, ◌∙◌}
-use mathlib.Core.Bool.{Bool, true, false, ◌&&◌, ◌||◌, cond, true≢false}
+use mathlib.Core.Bool.{Bool, true, false, ◌&&◌, ◌||◌, cond}
 use mathlib.Core.List.{List, [], ◌∷◌, ◌++◌, map, append-nil, flatten}
 use native.Mathlib.Omega.{arith}
 use lib.Dec.{leb, ltb, eqb}
@@ -10,6 +10,7 @@ use lib.ListN.{length, take, drop, get_or, length-drop, drop_of_length-le}
 use lib.Seq.{drop_at, drop-drop, length-take-le}
 use borrow.Author.Tests.{leb-true, le-leb, ltb-true, eqb-true, eqb-false, eq-eqb, ne_eqb}
 use Rattle.std.proofs.Common.{Option, Some, None}
+use Rattle.std.proofs.lemmas.Option.{cond_some}
 use Rattle.text.specs.Bytes.{parts}
 use Rattle.text.specs.Texts.{in_form as text_form}
 use Rattle.text.specs.Texts.{Text}
@@ -39,9 +40,8 @@ use Rattle.judge.proofs.Cases.{answered}
 use Rattle.message.specs.Writing.{writable}
 use Rattle.message.proofs.Writes.{writable-judged}
 use Rattle.packed.specs.Packed.{kind_byte, side_byte, service_byte, period_byte, codes, texts, text_bytes, moment_packed, numbers, number_bytes, packed_of}
-use Rattle.unpacked.specs.Unpacked.{named, kind_from, side_from, service_from, period_from, text_from, number_from, texts_in, numbers_in, trade_from, trade_in, unpacked_of}
+use Rattle.unpacked.specs.Unpacked.{named, kind_from, side_from, service_from, period_from, text_from, number_from, texts_in, numbers_in, trade_from, trade_in, unpacked_of, record_in}
 use Rattle.unpacked.specs.Back.{text_fits, period_fits, moment_fits, number_fits, has_room, byte_fits, Again}
-use Rattle.unpacked.specs.declared.Unpacked.{Unpacked}
 use Rattle.packed.proofs.Laws.{at_most_in, at-most-le, length-number}
 use Rattle.unpacked.proofs.Laws.{number-back, byte_small, bytes_take, bytes_drop, number-again, number_small, cut-row, length-row, row-parts, parts_again}
 
@@ -182,7 +182,7 @@ module _ (t : Trade) (e : has_room t ≡ true) where
       let o = others-fit in
       rw (texts-back, numbers-back, (kind-back t.kind).0, (side-back t.side).0, (service-back t.service).0, period-back t.period o.0, moment-back t.prep o.1, moment-back t.trad o.2)
 
-  pub unpacks : unpacked_of (packed_of t) ≡ record { good = true; trade = t }
+  pub unpacks : unpacked_of (packed_of t) ≡ Some t
   unfolding unpacked_of
   unpacks = rw (named-is, trade-back)
 
@@ -337,31 +337,16 @@ blank-judged = sym (ap (λ (l : List ℕ). get_or l 1 0) answered)
 
 -- ---- the statements
 
--- what unpacking answers, by whether the code bytes name words
-abbrev either : List ℕ → Bool → Unpacked
-either s b = cond b (record { good = true; trade = trade_in s }) (record { good = false; trade = blank_trade })
-
-good-named : (s : List ℕ) → (unpacked_of s).good ≡ true → (named s ≡ true) × ((unpacked_of s).trade ≡ trade_in s)
-unfolding unpacked_of
-good-named s g = go (named s) refl g
-  where
-    go : (b : Bool) → named s ≡ b → (either s b).good ≡ true → (named s ≡ true) × ((either s b).trade ≡ trade_in s)
-    go true e q = (e, refl)
-    go false e q = absurd (true≢false (sym q))
-
 pub packs-all : Again
-packs-all (a ∷ b ∷ c ∷ d ∷ r) l e g =
-    let n = good-named (a ∷ b ∷ c ∷ d ∷ r) g in
-    ap packed_of n.1 ∙ packs a b c d r (omega arith) e n.0
-packs-all [] l e g = absurd (omega arith)
-packs-all (a ∷ []) l e g = absurd (omega arith)
-packs-all (a ∷ b ∷ []) l e g = absurd (omega arith)
-packs-all (a ∷ b ∷ c ∷ []) l e g = absurd (omega arith)
-
-pub bad-blank : (s : List ℕ) → (unpacked_of s).good ≡ false → (unpacked_of s).trade ≡ blank_trade
 unfolding unpacked_of
-bad-blank s g = go (named s) g
-  where
-    go : (b : Bool) → (either s b).good ≡ false → (either s b).trade ≡ blank_trade
-    go true q = absurd (true≢false q)
-    go false q = refl
+packs-all (a ∷ b ∷ c ∷ d ∷ r) t l e g =
+    let n = cond_some (named (a ∷ b ∷ c ∷ d ∷ r)) _ t g in
+    ap packed_of (sym n.1) ∙ packs a b c d r (omega arith) e n.0
+packs-all [] t l e g = absurd (omega arith)
+packs-all (a ∷ []) t l e g = absurd (omega arith)
+packs-all (a ∷ b ∷ []) t l e g = absurd (omega arith)
+packs-all (a ∷ b ∷ c ∷ []) t l e g = absurd (omega arith)
+
+pub none-blank : (s : List ℕ) → unpacked_of s ≡ None → record_in s ≡ blank_trade
+unfolding record_in
+none-blank s e = rw e

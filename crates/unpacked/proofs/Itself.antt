@@ -30,9 +30,8 @@ use Rattle.message.specs.Writing.{writable}
 use Rattle.message.proofs.Writes.{writable-judged}
 use Rattle.packed.specs.Packed.{at_most, period_byte, codes, texts, text_bytes, moment_packed, numbers, packed_of}
 use Rattle.packed.proofs.Laws.{at_most_in, at-most-out, at-most-le}
-use Rattle.unpacked.specs.Unpacked.{unpacked_of}
+use Rattle.unpacked.specs.Unpacked.{unpacked_of, record_in}
 use Rattle.unpacked.specs.Back.{text_fits, period_fits, moment_fits, has_room, text_held, typed, Itself}
-use Rattle.unpacked.specs.declared.Unpacked.{Unpacked}
 use Rattle.unpacked.proofs.Back.{moment-again, unpacks}
 
 -- ---- the record that has room, and the same bytes
@@ -260,8 +259,9 @@ module _ (t : Trade) (form : in_form (capped t) ≡ true) where
       )
 
 pub itself : Itself
+unfolding record_in
 itself t h w =
-    let e : unpacked_of (packed_of t) ≡ record { good = true; trade = capped t } = ap unpacked_of (sym (same_bytes t)) ∙ unpacks (capped t) (room t h) in
-    let r : (unpacked_of (packed_of t)).trade ≡ capped t = ap (λ (u : Unpacked). u.trade) e in
+    let e : unpacked_of (packed_of t) ≡ Some (capped t) = ap unpacked_of (sym (same_bytes t)) ∙ unpacks (capped t) (room t h) in
+    let r : record_in (packed_of t) ≡ capped t = rw e in
     let v : writable (capped t) ≡ true = rw r at w in
     r ∙ capped-itself t (judge-zero (capped t) (writable-judged (capped t) v)).0

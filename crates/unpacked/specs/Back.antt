@@ -1,5 +1,5 @@
 -- Neither way loses anything: what packing and unpacking say of each other. Proved in proofs/Back.
-use Rattle.std.specs.Prelude.{ℕ, ◌+◌, ◌*◌, ◌≡◌, Bool, true, false, ◌&&◌, List, map, leb, eqb, length, Option, Some, None}
+use Rattle.std.specs.Prelude.{ℕ, ◌+◌, ◌*◌, ◌≡◌, Bool, true, ◌&&◌, List, map, leb, eqb, length, Option, Some, None}
 use Rattle.text.specs.Texts.{Text}
 use Rattle.calendar.specs.declared.Moment.{Moment}
 use Rattle.trade.specs.Records.{blank_trade}
@@ -9,7 +9,7 @@ use Rattle.values.specs.Mt515.{mt515}
 use Rattle.message.specs.Writing.{written_over, writable}
 use Rattle.writing.specs.Writing.{writing_of}
 use Rattle.packed.specs.Packed.{texts, numbers, packed_of}
-use Rattle.unpacked.specs.Unpacked.{unpacked_of}
+use Rattle.unpacked.specs.Unpacked.{unpacked_of, record_in}
 
 -- ---- every field has room in its place
 
@@ -43,7 +43,7 @@ byte_fits b = leb b 255
 
 -- unpacking gives back what was packed
 abbrev pub Back : Type 0
-Back = (t : Trade) → has_room t ≡ true → unpacked_of (packed_of t) ≡ record { good = true; trade = t }
+Back = (t : Trade) → has_room t ≡ true → unpacked_of (packed_of t) ≡ Some t
 
 -- and so for every record that may be written, and for the blank one
 abbrev pub Fits : Type 0
@@ -51,11 +51,11 @@ Fits = ((t : Trade) → writable t ≡ true → has_room t ≡ true) × (has_roo
 
 -- a field that has no room in its place never comes back as one that may be written: what may be written is what was packed
 abbrev pub Itself : Type 0
-Itself = (t : Trade) → typed t ≡ true → writable (unpacked_of (packed_of t)).trade ≡ true → (unpacked_of (packed_of t)).trade ≡ t
+Itself = (t : Trade) → typed t ≡ true → writable (record_in (packed_of t)) ≡ true → record_in (packed_of t) ≡ t
 
 -- packing gives back the bytes that were unpacked: two records of bytes are never one record
 abbrev pub Again : Type 0
-Again = (s : List ℕ) → length s ≡ 375 → hold (map byte_fits s) ≡ true → (unpacked_of s).good ≡ true → packed_of (unpacked_of s).trade ≡ s
+Again = (s : List ℕ) (t : Trade) → length s ≡ 375 → hold (map byte_fits s) ≡ true → unpacked_of s ≡ Some t → packed_of t ≡ s
 
 -- two records that may be written and have the same bytes are one
 abbrev pub Apart : Type 0
@@ -64,8 +64,8 @@ Apart = (t u : Trade) → writable t ≡ true → writable u ≡ true → packed
 -- bytes that are no record are refused with 18, and change nothing
 abbrev pub Refused : Type 0
 Refused =
-    (s buf : List ℕ) → (unpacked_of s).good ≡ false
-    → (writing_of mt515 (unpacked_of s).trade (length buf) ≡ record { number = 18; length = 0 }) × (written_over (unpacked_of s).trade buf ≡ buf)
+    (s buf : List ℕ) → unpacked_of s ≡ None
+    → (writing_of mt515 (record_in s) (length buf) ≡ record { number = 18; length = 0 }) × (written_over (record_in s) buf ≡ buf)
 
 pub record Lossless : Type 0 where
   pub back : Back

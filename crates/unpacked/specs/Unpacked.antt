@@ -1,5 +1,5 @@
--- The record of 375 bytes, by the places of packed's specs/Packed; no record, with the blank one beside it, where a code byte names no word.
-use Rattle.std.specs.Prelude.{ℕ, ◌+◌, ◌*◌, Bool, true, false, ◌&&◌, cond, List, [], ◌∷◌, map, leb, eqb, drop, get_or, Option, Some, None}
+-- The record of 375 bytes, by the places of packed's specs/Packed; none where a code byte names no word.
+use Rattle.std.specs.Prelude.{ℕ, ◌+◌, ◌*◌, Bool, ◌&&◌, cond, List, [], ◌∷◌, map, leb, eqb, drop, get_or, Option, Some, None, unwrap_or}
 use Rattle.text.specs.Bytes.{parts}
 use Rattle.text.specs.Texts.{Text}
 use Rattle.calendar.specs.Dates.{moment_of}
@@ -8,7 +8,6 @@ use Rattle.trade.specs.declared.Kind.{Kind}
 use Rattle.typed.specs.declared.Side.{Side}
 use Rattle.trade.specs.declared.Service.{Service}
 use Rattle.trade.specs.declared.Trade.{Trade}
-use Rattle.unpacked.specs.declared.Unpacked.{Unpacked}
 
 -- ---- the code bytes
 
@@ -77,5 +76,9 @@ trade_from kind side service period texts numbers =
 unfoldable pub trade_in : List ℕ → Trade
 trade_in s = trade_from (kind_from (get_or s 0 0)) (side_from (get_or s 1 0)) (service_from (get_or s 2 0)) (period_from (get_or s 3 0)) (texts_in s) (numbers_in s)
 
-unfoldable pub unpacked_of : List ℕ → Unpacked
-unpacked_of s = cond (named s) (record { good = true; trade = trade_in s }) (record { good = false; trade = blank_trade })
+unfoldable pub unpacked_of : List ℕ → Option Trade
+unpacked_of s = cond (named s) (Some (trade_in s)) None
+
+-- the record whose message is written: of bytes that are none, the blank one
+unfoldable pub record_in : List ℕ → Trade
+record_in s = unwrap_or (unpacked_of s) blank_trade

@@ -10,7 +10,7 @@ ghost use Rattle.std.specs.Prelude.{◌≡◌, length};
 ghost use Rattle.format.specs.Writing.{written_over};
 ghost use Rattle.values.specs.Mt515.{mt515};
 ghost use Rattle.writing.specs.Writing.{writing_of};
-ghost use Rattle.unpacked.specs.Unpacked.{trade_from, trade_in, unpacked_of};
+ghost use Rattle.unpacked.specs.Unpacked.{trade_from, trade_in, unpacked_of, record_in};
 
 use amount::{Amount, Par, Price};
 use calendar::{Date, Moment, Time};
@@ -19,13 +19,6 @@ use text::Text;
 use trade::{Kind, Party, Service, Trade};
 use typed::Side;
 use writing::Writing;
-
-// The record of some bytes; the blank record where they are none.
-#[derive(Clone, Copy)]
-pub struct Unpacked {
-    pub good: bool,
-    pub trade: Trade,
-}
 
 // The record that texts and numbers in the order of their places make.
 fn trade_from(
@@ -98,27 +91,18 @@ fn trade_in(packed: &[u8]) -> Trade
     trade_from(kind, side, service, period, texts, numbers)
 }
 
-fn answer(good: bool, trade: Trade) -> Unpacked
-    ensures { result ≡ record { good = good; trade = trade } }
-{
-    Unpacked { good, trade }
-}
-
-// The record that 375 bytes are.
-pub fn unpack(packed: &[u8; 375]) -> Unpacked
+// The record that 375 bytes are; None where a code byte names no word.
+pub fn unpack(packed: &[u8; 375]) -> Option<Trade>
     ensures { result ≡ unpacked_of packed.now }
 {
-    if codes::are_named(packed) {
-        return answer(true, trade_in(packed));
-    }
-    answer(false, trade::blank())
+    codes::are_named(packed).then(|| trade_in(packed))
 }
 
 // Writes the message of the record that 375 bytes are, as `writing::write` does. Of bytes that are no record it is the blank
 // one, which is refused with 18.
 pub fn write(packed: &[u8; 375], buf: &mut [u8]) -> Writing
-    ensures { (result ≡ writing_of mt515 (unpacked_of packed.now).trade (length buf.old)) × (buf.new ≡ written_over mt515 (unpacked_of packed.now).trade buf.old) }
+    ensures { (result ≡ writing_of mt515 (record_in packed.now) (length buf.old)) × (buf.new ≡ written_over mt515 (record_in packed.now) buf.old) }
 {
-    let unpacked = unpack(packed);
-    writing::write::<Mt515>(unpacked.trade, buf)
+    let trade = unpack(packed).unwrap_or_else(trade::blank);
+    writing::write::<Mt515>(trade, buf)
 }

@@ -1,5 +1,8 @@
 -- `unpacked::write` meets its contract. Assumes nothing.
+use Rattle.std.proofs.Common.{rules}
+use Rattle.unpacked.specs.Unpacked.{record_in}
 use Rattle.unpacked.proofs.write.Goals as goal
 
 pub returns : goal.returns
-returns c = rw (← c.unpack-unpacked.ensures) c.write.ensures
+unfolding record_in
+returns c = search (rules)
