@@ -191,9 +191,9 @@ module _ (key s : List ℕ) (b : Bool) (is : b ≡ begins key s) where
       edge_open g = sym (edge-ends ∙ rw g)
 
       module _ (w : ℕ) (g : o ≡ Some w) where
-        pub edge_told : 1 ≤ w → w ≤ 2 → true ≡ is_edge s key
+        pub edge_told : (1 ≤ w) × (w ≤ 2) → true ≡ is_edge s key
         unfolding is_between
-        edge_told l h = sym (edge-ends ∙ rw (g, le-leb 1 w l, le-leb w 2 h))
+        edge_told h = sym (edge-ends ∙ rw (g, le-leb 1 w h.0, le-leb w 2 h.1))
 
         pub edge_zero : w < 1 → false ≡ is_edge s key
         unfolding is_between

@@ -34,50 +34,29 @@ returns-in_default c =
 pub slice_bounds-first_end-end : goal.slice_bounds-first_end-end
 slice_bounds-first_end-end c = let h = c.text_length-n.ensures.0 in sym (length-take-le _ _ h)
 
+-- the turn of a line that has its ending
+turn-some : (c : goal.After-first_end-end)
+    → Turn c.args.message.now c.loop-at.line c.loop-at.end c.loop-at.at c.text_length-n.result c.ending.result
+    (take c.text_length-n.result (take (length c.args.message.now - c.loop-at.at) (drop c.loop-at.at c.args.message.now)))
+turn-some c = turn _ _ _ _ c.loop-at-test.true _ (rest_of _ _ c.args.message.now refl) _ c.text_length-n.ensures _ (rest_of c.text_length-n.result _ _ refl) _ c.ending.ensures
+
 pub overflow_add-at : goal.overflow_add-at
 overflow_add-at c =
-    let m = c.args.message.now in
-    let l = c.loop-at in
-    let n = c.text_length-n.result in
-    let here : Turn m l.line l.end l.at n c.ending.result (take n (take (length m - l.at) (drop l.at m))) =
-    turn m _ _ _ c.loop-at-test.true _ (rest_of _ _ m refl) n c.text_length-n.ensures _ (rest_of n _ _ refl) _ c.ending.ensures
-    in
-    let g = here.grows _ c.in-Some.is in
-    omega arith
+    let g = (turn-some c).grows _ c.in-Some.is in omega arith
 
 pub overflow_add-at-in-loop-at : goal.overflow_add-at-in-loop-at
 overflow_add-at-in-loop-at c =
-    let m = c.args.message.now in
-    let l = c.loop-at in
-    let n = c.text_length-n.result in
-    let here : Turn m l.line l.end l.at n c.ending.result (take n (take (length m - l.at) (drop l.at m))) =
-    turn m _ _ _ c.loop-at-test.true _ (rest_of _ _ m refl) n c.text_length-n.ensures _ (rest_of n _ _ refl) _ c.ending.ensures
-    in
-    let g = here.grows _ c.in-Some.is in
-    omega arith
+    let g = (turn-some c).grows _ c.in-Some.is in omega arith
 
 pub loop-at-smaller : goal.loop-at-smaller
 loop-at-smaller c =
-    let m = c.args.message.now in
-    let l = c.loop-at in
-    let n = c.text_length-n.result in
-    let here : Turn m l.line l.end l.at n c.ending.result (take n (take (length m - l.at) (drop l.at m))) =
-    turn m _ _ _ c.loop-at-test.true _ (rest_of _ _ m refl) n c.text_length-n.ensures _ (rest_of n _ _ refl) _ c.ending.ensures
-    in
-    let g = here.grows _ c.in-Some.is in
-    omega arith
+    let g = (turn-some c).grows _ c.in-Some.is in omega arith
 
 pub loop-at-preserved : goal.loop-at-preserved
 loop-at-preserved c =
-    let m = c.args.message.now in
-    let l = c.loop-at in
-    let n = c.text_length-n.result in
-    let here : Turn m l.line l.end l.at n c.ending.result (take n (take (length m - l.at) (drop l.at m))) =
-    turn m _ _ _ c.loop-at-test.true _ (rest_of _ _ m refl) n c.text_length-n.ensures _ (rest_of n _ _ refl) _ c.ending.ensures
-    in
-    let more = c.in-Some.is in
-    let g = here.grows _ more in
-    (g.1, omega arith, here.goes_on _ more _ c.first_end-end.ensures ∙ l.invariant.2)
+    let here = turn-some c in
+    let g = here.grows _ c.in-Some.is in
+    (g.1, omega arith, here.goes_on _ c.in-Some.is _ c.first_end-end.ensures ∙ c.loop-at.invariant.2)
 
 pub check_end-requires : goal.check_end-requires
 check_end-requires c = c.requires
