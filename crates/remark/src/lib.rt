@@ -12,16 +12,16 @@ use text::{Class, Padded};
 
 pub type Remark = Padded<35>;
 
-pub const BLANK: Remark = Padded {
-    bytes: [0; 35],
-    len: 0,
-};
+pub const BLANK: Remark = Remark::BLANK;
 
 // A part of a message as a remark; one that is longer than any gives none, and is never cut. So its width is to be judged on the
 // part, before.
 pub fn of(part: &[u8]) -> Remark
     ensures { result ≡ remark_of part.now }
 {
+    if 35 < part.len() {
+        return BLANK;
+    }
     Remark::of(part)
 }
 

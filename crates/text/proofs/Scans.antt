@@ -4,14 +4,13 @@
 use Prim.Native.Nat.{ℕ, suc, ◌+◌, ◌≤◌, ◌<◌}
 use mathlib.Core.Path.{◌≡◌, refl, sym, ap, ◌∙◌}
 use mathlib.Core.Bool.{Bool, cond, true, false, ◌&&◌, and-false, and-true, and_assoc}
-use mathlib.Core.List.{List, [], ◌∷◌}
+use mathlib.Core.List.{List, [], ◌∷◌, append_assoc}
 use native.Mathlib.Numerals.{add-one}
 use native.Mathlib.Nat.{zero-add, not-suc-le-zero, le_of_suc-le-suc}
 use native.Mathlib.Omega.{arith}
 use lib.Dec.{eqb}
-use lib.ListN.{length, drop, get_or, replicate, length-replicate, drop_of_length-le}
-use lib.Seq.{drop-cons, drop-drop}
-use borrow.Rule.Slice.PartMut.{put_mid}
+use lib.ListN.{length, drop, get_or, set, replicate, length-replicate, drop_of_length-le}
+use lib.Seq.{drop-cons, paste, paste-suc, take-length}
 use Rattle.std.specs.List.{position_or_len, position, list_all, zip}
 use Rattle.std.specs.Prelude.{Option, Some, None, nat_lt}
 use Rattle.std.specs.Option.{unwrap_or}
@@ -95,9 +94,13 @@ module _ (buf : List ℕ) (at : ℕ) (s : List ℕ) where
   unfolding after placed fits
   put_none h = (rw (lt-leb (at + length s) (length buf) h), rw (lt-leb (at + length s) (length buf) h))
 
-  pub put_all : (n : ℕ) (new : List ℕ) → n ≡ length s → at + length s ≤ length buf → new ≡ s → (at + length s ≡ after buf at s) × (put_mid at n buf new ≡ placed buf at s)
+  pub put-more : (now : List ℕ) (i : ℕ) → now ≡ paste buf at s i → at + i < length buf → i < length s → set now (at + i) (get_or s i 0) ≡ paste buf at s (i + 1)
+  put-more now i e h g = rw (e, add-one) (paste-suc buf at s i 0 h g)
+
+  pub put-done : (now : List ℕ) (i : ℕ) → now ≡ paste buf at s i → at + length s ≤ length buf → i ≡ length s → (at + length s ≡ after buf at s) × (now ≡ placed buf at s)
   unfolding after placed fits over
-  put_all n new e h f = (rw (le-leb (at + length s) (length buf) h), rw (le-leb (at + length s) (length buf) h, e, f, drop-drop (length s) at buf, over))
+  put-done now i e h g =
+      (rw (le-leb (at + length s) (length buf) h), rw (le-leb (at + length s) (length buf) h, e, g, take-length s, append_assoc))
 
 -- ---- texts
 

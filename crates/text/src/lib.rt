@@ -9,6 +9,7 @@ ghost use Rattle.text.specs.Bytes.{begins, same, before, little};
 ghost use Rattle.text.specs.Classes.{is_between, is_c, is_hyphened, in_class, all_in, is_all, is_code};
 ghost use Rattle.text.specs.Texts.{contents, padded_of, in_form_of, in_form};
 ghost use Rattle.text.specs.Copy.{placed, after};
+ghost use Rattle.text.specs.declared.Class.TheVariants.{Printed};
 
 // The classes that the values of documents 01 and 02 are made of, and the zero byte behind a text.
 #[derive(Clone, Copy)]
@@ -194,9 +195,11 @@ pub fn put(buf: &mut [u8], at: usize, part: &[u8]) -> usize
     if buf.len() < at || buf.len() - at < part.len() {
         return at;
     }
-    let end = at + part.len();
-    buf[at..end].copy_from_slice(part);
-    end
+    // Byte by byte: the method that copies a part into another is a call of memmove, which a C program would have to bring along.
+    for (i, byte) in part.iter().enumerate() {
+        buf[at + i] = *byte;
+    }
+    at + part.len()
 }
 
 // The same of a part in its room: only the part is put, and not the zero bytes behind it.
@@ -239,14 +242,6 @@ impl<const N: usize> Padded<N> {
             && all_in(class, &bytes[..len])
             && all_in(Class::Zero, &bytes[len..])
     }
-
-    // So it is for one that takes c.
-    #[tactic(auto, unfolding(crate::specs::Texts::in_form, crate::specs::Texts::in_form_of))]
-    pub fn in_form(self, least: usize, most: usize) -> bool
-        ensures { result ≡ in_form least most self.entry }
-    {
-        self.in_form_of(Class::C, least, most)
-    }
 }
 
 impl Padded<20> {
@@ -254,4 +249,34 @@ impl Padded<20> {
         bytes: [0; 20],
         len: 0,
     };
+
+    // A text is in form for a slot that takes from `least` to `most` c.
+    #[tactic(auto, unfolding(crate::specs::Texts::in_form, crate::specs::Texts::in_form_of))]
+    pub fn in_form(self, least: usize, most: usize) -> bool
+        ensures { result ≡ in_form least most self }
+    {
+        self.in_form_of(Class::C, least, most)
+    }
+}
+
+// The text of a reason, whose bytes are other ones than a text's: `remark::Remark`.
+impl Padded<35> {
+    pub const BLANK: Padded<35> = Padded {
+        bytes: [0; 35],
+        len: 0,
+    };
+
+    // It is in form for a slot that takes from `least` to `most` bytes that can be printed.
+    pub fn in_form(self, least: usize, most: usize) -> bool
+        ensures { result ≡ in_form_of Printed least most self }
+    {
+        self.in_form_of(Class::Printed, least, most)
+    }
+
+    // Puts the text, as `put` puts a part, and not the zero bytes behind it.
+    pub fn put(self, buf: &mut [u8], at: usize) -> usize
+        ensures { (result ≡ after buf.old at (contents self)) × (buf.new ≡ placed buf.old at (contents self)) }
+    {
+        put_text(buf, at, self)
+    }
 }

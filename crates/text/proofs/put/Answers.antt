@@ -1,8 +1,10 @@
 -- `text::put` meets its contract. Assumes nothing.
 use Prim.Native.Nat.{◌+◌, ◌<◌}
-use lib.ListN.{length}
+use mathlib.Core.Path.{refl}
+use lib.ListN.{length, length-set}
+use lib.Seq.{paste-zero}
 use native.Mathlib.Omega.{arith}
-use Rattle.text.proofs.Scans.{put_none, put_all}
+use Rattle.text.proofs.Scans.{put_none, put-more, put-done}
 use Rattle.text.proofs.put.Goals as goal
 use Rattle.text.proofs.put.Goals.{then-buf-at-via-then-buf-at, then-buf-at-via-else-buf-at+then-buf-at-2}
 
@@ -13,5 +15,15 @@ returns-then-buf-at c =
     elim c.then-buf-at.branch [ then-buf-at-via-then-buf-at w ↦ omega arith | then-buf-at-via-else-buf-at+then-buf-at-2 w ↦ omega arith ]
     in put_none _ _ _ short
 
+pub loop-i-init : goal.loop-i-init
+loop-i-init c = (paste-zero c.args.buf.now c.args.at c.args.part.now, refl)
+
+pub loop-i-preserved : goal.loop-i-preserved
+loop-i-preserved c =
+    let a = c.args in
+    (put-more a.buf.now a.at a.part.now _ _ c.loop-i.invariant.0 (omega arith) (omega arith), simp length-set c.loop-i.invariant.1)
+
 pub returns : goal.returns
-returns c = put_all c.args.buf.now c.args.at c.args.part.now _ _ (omega arith) (omega arith) c.copy_from_slice.ensures.after
+returns c =
+    let a = c.args in
+    put-done a.buf.now a.at a.part.now _ _ c.loop-i.invariant.0 (omega arith) (omega arith)
