@@ -11,6 +11,7 @@ ghost use Rattle.forms.specs.Slots.{slot_at};
 ghost use Rattle.layout.specs.Rows.{rows_of};
 ghost use Rattle.sheets.specs.Trees.{table_of};
 ghost use Rattle.fill.specs.Filling.{is_any};
+ghost use Rattle.fill.specs.Runs.{over_run, behind_run};
 ghost use Rattle.format.specs.Format.{optional};
 ghost use Rattle.format.specs.Writing.{message_of};
 ghost use Rattle.format.proofs.Chain.{Readable};
@@ -19,6 +20,7 @@ ghost use Rattle.format.proofs.Field.{Fields};
 ghost use Rattle.format.proofs.Lent.{Amounts};
 ghost use Rattle.format.proofs.Moved.{onto, movable};
 ghost use Rattle.format.proofs.Outline.{Outlined};
+ghost use Rattle.writer.specs.Parts.{parts_for};
 ghost use Rattle.message_type.specs.Shape.{Shape, of};
 
 use lines::Verdict;
@@ -81,6 +83,24 @@ pub trait MessageType {
     // The rules of line 0 when a record is written.
     fn write_rules(held: Self::Record) -> Verdict
         ensures { result ≡ shape.write_rules held };
+
+    // Puts a message with lent values, a text and for each slot where its value begins and ends, from the start of the buffer, each part
+    // where it has room, and answers the place behind it. The bytes of the header, the rows and the slots are lent to the writer here alone, for
+    // writing and for the plain form.
+    fn put<'a>(buf: &mut [u8], text: &[u8], starts: &'a [usize], ends: &'a [usize]) -> usize
+        ensures { (result ≡ behind_run buf.old 0 (parts_for (of shape) (stretch_of text.now starts.now ends.now))) × (buf.new ≡ over_run buf.old 0 (parts_for (of shape) (stretch_of text.now starts.now ends.now))) }
+    {
+        writer::put_message(
+            buf,
+            Self::header(),
+            Self::rows(),
+            Self::slots(),
+            Self::optional(),
+            text,
+            starts,
+            ends,
+        )
+    }
 
     // The message of a record, into a buffer that has room for it, and the place behind it.
     fn compose(buf: &mut [u8], held: Self::Record) -> usize

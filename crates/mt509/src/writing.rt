@@ -4,7 +4,9 @@ ghost use Rattle.text.specs.Copy.{placed, after};
 ghost use Rattle.format.specs.Writing.{message_of};
 ghost use Rattle.answer_values.specs.Mt509.{mt509};
 
+use crate::Mt509;
 use answer::Answer;
+use message_type::MessageType;
 
 // The message of a record, into a buffer that has room for it. Its values are put into a text once, so that the record is not copied at
 // each row.
@@ -16,14 +18,5 @@ pub(crate) fn compose(buf: &mut [u8], answer: Answer) -> usize
     let mut places = [0usize; 35];
     answer_values::put_values(&mut text, &mut places, answer);
     let starts: &[usize] = &places;
-    writer::put_message(
-        buf,
-        answer_table::heads(),
-        answer_table::rows(),
-        answer_table::forms(),
-        &answer_values::OPTIONAL,
-        &text,
-        starts,
-        &starts[1..],
-    )
+    Mt509::put(buf, &text, starts, &starts[1..])
 }

@@ -4,6 +4,8 @@ ghost use Rattle.text.specs.Copy.{placed, after};
 ghost use Rattle.format.specs.Writing.{message_of};
 ghost use Rattle.values.specs.Mt515.{mt515};
 
+use crate::Mt515;
+use message_type::MessageType;
 use trade::Trade;
 
 // The message of a record, into a buffer that has room for it. Its values are put into a text once, so that the record is not copied at
@@ -16,14 +18,5 @@ pub(crate) fn compose(buf: &mut [u8], trade: Trade) -> usize
     let mut places = [0usize; 31];
     values::put_values(&mut text, &mut places, trade);
     let starts: &[usize] = &places;
-    writer::put_message(
-        buf,
-        table::heads(),
-        table::rows(),
-        table::forms(),
-        &values::OPTIONAL,
-        &text,
-        starts,
-        &starts[1..],
-    )
+    Mt515::put(buf, &text, starts, &starts[1..])
 }

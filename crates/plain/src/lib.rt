@@ -45,16 +45,7 @@ pub fn put<'a, T: MessageType>(
 ) -> usize
     ensures { (result ≡ behind_run buf.old 0 (parts_for (of T.shape) (stretch_of text.now starts.now ends.now))) × (buf.new ≡ over_run buf.old 0 (parts_for (of T.shape) (stretch_of text.now starts.now ends.now))) }
 {
-    writer::put_message(
-        buf,
-        T::header(),
-        T::rows(),
-        T::slots(),
-        T::optional(),
-        text,
-        starts,
-        ends,
-    )
+    T::put(buf, text, starts, ends)
 }
 
 // The plain form of an accepted message, into a buffer that has room for it. It is put from the message's own stretches, of which those

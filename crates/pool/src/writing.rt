@@ -4,6 +4,8 @@ ghost use Rattle.text.specs.Copy.{placed, after};
 ghost use Rattle.format.specs.Writing.{message_of};
 ghost use Rattle.pool_values.specs.Pool.{pool};
 
+use crate::Pool;
+use message_type::MessageType;
 use pool_trade::PoolTrade;
 
 // The message of a record, into a buffer that has room for it. Its values are put into a text once, so that the record is not copied at
@@ -16,14 +18,5 @@ pub(crate) fn compose(buf: &mut [u8], trade: PoolTrade) -> usize
     let mut places = [0usize; 23];
     pool_values::put_values(&mut text, &mut places, trade);
     let starts: &[usize] = &places;
-    writer::put_message(
-        buf,
-        pool_table::heads(),
-        pool_table::rows(),
-        pool_table::forms(),
-        &pool_values::OPTIONAL,
-        &text,
-        starts,
-        &starts[1..],
-    )
+    Pool::put(buf, &text, starts, &starts[1..])
 }
