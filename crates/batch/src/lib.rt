@@ -35,25 +35,29 @@ fn without_message<T: MessageType>(number: u64) -> Reading<T::Record>
 pub fn next<T: MessageType>(batch: &[u8], position: usize) -> Found<T::Record>
     ensures { result ≡ next_of (of T.shape) batch.now position }
 {
-    match batch.get(position..) {
-        None => Found {
-            turn: Turn::Past,
-            reading: without_message::<T>(21),
-            position,
-        },
-        Some([]) => Found {
-            turn: Turn::Done,
-            reading: without_message::<T>(0),
-            position,
-        },
-        Some(left) => {
-            let front = reading::read_front::<T>(left);
-            let end = position + front.length;
-            Found {
-                turn: Turn::Message,
-                reading: front.reading,
-                position: end,
-            }
+    // What is answered is returned from each way: as the value of the match it is copied once more.
+    let left = match batch.get(position..) {
+        None => {
+            return Found {
+                turn: Turn::Past,
+                reading: without_message::<T>(21),
+                position,
+            };
         }
+        Some([]) => {
+            return Found {
+                turn: Turn::Done,
+                reading: without_message::<T>(0),
+                position,
+            };
+        }
+        Some(left) => left,
+    };
+    let front = reading::read_front::<T>(left);
+    let end = position + front.length;
+    Found {
+        turn: Turn::Message,
+        reading: front.reading,
+        position: end,
     }
 }

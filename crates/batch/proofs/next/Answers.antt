@@ -30,9 +30,9 @@ overflow_add-end g c =
     let w = front-within c.args.batch.now c.args.position _ (ap (λ (f : Front F.Held). f.length) (rw left.2 at c.read_front-front.ensures)) left.0 in
     omega arith
 
-pub returns-in-Some : goal.returns-in-Some
+pub returns : goal.returns
 unfolding front_of says_of
-returns-in-Some g c =
+returns g c =
     let F = of g.T.MessageType.shape in
     let left = c.in-Some.ensures.lookup.0 in
     let is = rw left.2 at c.read_front-front.ensures in
